@@ -8,3 +8,4 @@ pub mod Symbols
 pub mod Trees
 pub mod Values
 pub mod Dumps
+pub mod Spelled
