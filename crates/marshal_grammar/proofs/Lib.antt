@@ -1,1 +1,5 @@
 pub mod LongLists
+pub mod Results
+pub mod Complete
+pub mod Sound
+pub mod Refused

@@ -34,11 +34,16 @@ abbrev pub inside : {A : Type 0} → Why → ℕ → Context → List ℕ → Re
 inside w at c bs (Ok r) = Ok (r.0, c, bs)
 inside w at c bs (Err e) = refuse w at
 
+-- after a round: another one, or this was the last
+abbrev pub go_on : {A S : Type 0} → (S → Context → List ℕ → Read A) → S ⊎ A → Context → List ℕ → Read A
+go_on again (inl t) c bs = again t c bs
+go_on again (inr v) c bs = Ok (v, c, bs)
+
 -- rounds until one is the last, at most n of them
 abbrev pub in_rounds : {A S : Type 0} → (S → ℕ → Context → List ℕ → Read (S ⊎ A)) → ℕ → S → Context → List ℕ → Read A
 in_rounds round zero s c bs = short c bs
 in_rounds round (suc n) s c [] = short c []
-in_rounds round (suc n) s c (b ∷ bs) = next (round s b (past 1 c) bs) (λ o d rest. elim o [ inl t ↦ in_rounds round n t d rest | inr v ↦ Ok (v, d, rest) ])
+in_rounds round (suc n) s c (b ∷ bs) = next (round s b (past 1 c) bs) (go_on (in_rounds round n))
 
 abbrev pub read : {A : Type 0} → Grammar A → Context → List ℕ → Read A
 read (gives a) c bs = Ok (a, c, bs)
