@@ -3,3 +3,5 @@ pub mod Results
 pub mod Complete
 pub mod Sound
 pub mod Refused
+pub mod Answering
+pub mod Rows

@@ -9,3 +9,4 @@ pub mod Trees
 pub mod Values
 pub mod Dumps
 pub mod Spelled
+pub mod Laws
