@@ -1,0 +1,7 @@
+pub mod LongLists
+pub mod Results
+pub mod Complete
+pub mod Sound
+pub mod Refused
+pub mod Answering
+pub mod Rows

@@ -1,0 +1,12 @@
+pub mod Longs
+pub mod Kinds
+pub mod Contexts
+pub mod Grammar
+pub mod Reading
+pub mod Counts
+pub mod Symbols
+pub mod Trees
+pub mod Values
+pub mod Dumps
+pub mod Spelled
+pub mod Laws
