@@ -1,0 +1,4 @@
+pub mod Lives
+pub mod Lists
+pub mod Classes
+pub mod Ranges
