@@ -2,7 +2,8 @@ use Rattle.std.proofs.Common.{ℕ, ◌≤◌, ◌+◌, ◌*◌, List, [], ◌∷
 use Rattle.drb_tree.specs.declared.Tree.{Tree}
 use Rattle.drb_tree.specs.declared.Tree.TheViews.{roll-Tree}
 use Rattle.drb_tree.specs.declared.Tree.TheOpen as T
-use Rattle.drb_tree.specs.Words as W
+use Rattle.drb_tree.specs.Sizes as W
+use Rattle.drb_tree.proofs.Sizes as L
 use Rattle.drb_value.specs.declared.Node.{Node}
 use Rattle.drb_value.specs.declared.Node.TheVariants as N
 use Rattle.drb_value.specs.declared.Pairs.TheInside as P
@@ -35,10 +36,10 @@ list_falls [] = omega arith
 list_falls (t ∷ ts) = omega (arith, list_falls ts)
 
 pub falls : (n : Node) → max (deep-Node n) 0 ≤ 2 * W.depth (view_of n)
-falls (N.List vs) = omega (arith, list_falls vs, W.depth_list vs)
-falls (N.Hash p) = omega (arith, W.depth_hash p.0 p.1)
-falls (N.Object f) = omega (arith, W.depth_object f.class f.fields)
-falls (N.Struct f) = omega (arith, W.depth_struct f.class f.fields)
-falls (N.Dumped d) = omega (arith, W.depth_dumped d.class d.bytes d.vars)
-falls (N.Wrapped w) = omega (arith, W.depth_wrapped w.class w.inner)
+falls (N.List vs) = omega (arith, list_falls vs, L.depth_list vs)
+falls (N.Hash p) = omega (arith, L.depth_hash p.0 p.1)
+falls (N.Object f) = omega (arith, L.depth_object f.class f.fields)
+falls (N.Struct f) = omega (arith, L.depth_struct f.class f.fields)
+falls (N.Dumped d) = omega (arith, L.depth_dumped d.class d.bytes d.vars)
+falls (N.Wrapped w) = omega (arith, L.depth_wrapped w.class w.inner)
 falls _ = omega arith

@@ -117,7 +117,7 @@ impl Model for Pairs {
 
     ghost coded = { Prim.hlevel (codes, e.the_row.coded) };
 
-    ghost use Rattle.drb_tree.specs.Words.{pairs_depth};
+    ghost use Rattle.drb_tree.specs.Sizes.{pairs_depth};
 
     ghost view = { λ a. (a.pairs, a.default) };
 
@@ -138,7 +138,8 @@ impl Model for FieldList {
 
     ghost coded = { Prim.hlevel (codes, e.the_row.coded) };
 
-    ghost use Rattle.drb_tree.specs.Words.{fields_depth, names_distinct};
+    ghost use Rattle.drb_tree.specs.Sizes.{fields_depth};
+    ghost use Rattle.drb_tree.specs.Kept.{names_distinct};
 
     ghost view = { λ a. a.list };
 
@@ -165,7 +166,7 @@ impl Model for Value {
 
     ghost view = { λ a. view_of a.node };
 
-    ghost use Rattle.drb_tree.specs.Words.{depth};
+    ghost use Rattle.drb_tree.specs.Sizes.{depth};
 
     ghost size = { λ t. 2 * depth t };
 
