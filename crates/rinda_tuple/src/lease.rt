@@ -57,7 +57,10 @@ fn after_seconds(s: i128, now: u64) -> Option<u64>
     if s <= 0 {
         return Some(now);
     }
-    let later = s.unsigned_abs().checked_mul(1000)?.checked_add(now as u128)?;
+    let later = s
+        .unsigned_abs()
+        .checked_mul(1000)?
+        .checked_add(now as u128)?;
     if later > LAST_DEADLINE as u128 {
         return None;
     }
