@@ -8,3 +8,4 @@ pub mod Steps
 pub mod Fixed
 pub mod Settled
 pub mod Legal
+pub mod Full

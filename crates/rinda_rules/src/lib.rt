@@ -8,6 +8,7 @@
 #![tactic(auto)]
 
 pub mod event;
+pub mod journal;
 pub mod object;
 pub mod out;
 pub mod plain;
@@ -15,6 +16,7 @@ pub mod row;
 pub mod turn;
 
 pub use event::{Event, Kind};
+pub use journal::{Journal, JournalError, VecJournal};
 pub use object::{Doubt, Last, ObjectKind};
 pub use out::{Flags, Out};
 pub use row::{NoteRow, NoteState, RequestRow, RequestState, TupleRow};
