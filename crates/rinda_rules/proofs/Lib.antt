@@ -1,0 +1,5 @@
+pub mod Lists
+pub mod Finding
+pub mod Keeping
+pub mod Histories
+pub mod First

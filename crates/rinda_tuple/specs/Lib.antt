@@ -1,0 +1,5 @@
+pub mod Lives
+pub mod Lists
+pub mod Classes
+pub mod Ranges
+pub mod Matching

@@ -1,0 +1,16 @@
+//! Tuples, the templates that match them, and how long an object of the space stays.
+//!
+//! The layer stands on the values alone. It promises that `matches` says yes exactly where a template matches a
+//! tuple by the table of classes and the rule of ranges, at the price of one step of a counter that costs nothing
+//! when it runs, and that a deadline is exactly what a life and a time give. Read `tuple` first, then `lease`, then
+//! `matching` with its two helpers `class` and `range`, and `steps` last; docs/SPACE.md, Matching, has the rules in
+//! plain words.
+#![tactic(auto)]
+
+pub mod lease;
+pub mod steps;
+pub mod tuple;
+
+pub use lease::{Lease, Life, LifeArg, deadline, life_of};
+pub use steps::Steps;
+pub use tuple::{NOT_A_LIST, NotTuple, Template, Tuple, template_of, tuple_of};
