@@ -3,7 +3,7 @@
 use crate::refusal::Why;
 
 ghost use Rattle.std.specs.Prelude.{◌≡◌, ◌+◌, ◌<◌, ◌≤◌, ◌^◌, length, drop, pos, ◌≤ℤ◌, MatchResult, IfOk, Some, None};
-ghost use Rattle.marshal_grammar.specs.Longs.{Long, NoLong, long_of, more_after, long_value, little};
+ghost use Rattle.marshal_grammar.specs.Longs.{LongAt, NoLong, long_of, more_after, long_value, little};
 
 /// The long at `at`, and the place after it.
 ///
@@ -13,6 +13,9 @@ ghost use Rattle.marshal_grammar.specs.Longs.{Long, NoLong, long_of, more_after,
 pub fn long_at(bytes: &[u8], at: usize) -> Result<(i64, usize), Why>
     requires { at ≤ length bytes.now }
     ensures exact { MatchResult result
+        (λ r. LongAt bytes.now at r.0 r.1)
+        (λ why. (why ≡ Why.Short) × NoLong (drop at bytes.now)) }
+    ensures reads { MatchResult result
         (λ r. long_of (drop at bytes.now) ≡ Some (r.0, drop r.1 bytes.now))
         (λ why. (why ≡ Why.Short) × (long_of (drop at bytes.now) ≡ None)) }
     ensures within { IfOk result (λ r. (at < r.1) × (r.1 ≤ length bytes.now)) }
