@@ -4,5 +4,7 @@ pub mod Complete
 pub mod Sound
 pub mod Refused
 pub mod Rounds
+pub mod Tables
+pub mod WrittenLongs
 pub mod Answering
 pub mod Rows
