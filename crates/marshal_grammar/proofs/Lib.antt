@@ -6,5 +6,6 @@ pub mod Refused
 pub mod Rounds
 pub mod Tables
 pub mod WrittenLongs
+pub mod Pieces
 pub mod Answering
 pub mod Rows
