@@ -7,5 +7,6 @@ pub mod Rounds
 pub mod Tables
 pub mod WrittenLongs
 pub mod Pieces
+pub mod WrittenLeaves
 pub mod Answering
 pub mod Rows

@@ -38,7 +38,7 @@ after_string s c = past (length s) (after_long (length s) c)
 pub long_gives : (n : ℕ) (c : Context) (rest : List ℕ) → n < 2 ^ 32 → long_of (long_from n ++ rest) ≡ Some (pos n, rest)
 long_gives n c rest h = long_again (long_from n) rest (pos n) (long_from_is n h)
 
-long_length : (n : ℕ) (rest : List ℕ) → length (long_from n ++ rest) - length rest ≡ length (long_from n)
+pub long_length : (n : ℕ) (rest : List ℕ) → length (long_from n ++ rest) - length rest ≡ length (long_from n)
 long_length n rest = omega (arith, length-append (long_from n) rest)
 
 pub count_gives : (n : ℕ) (c : Context) → n < 2 ^ 32 → Gives count c (long_from n) n (after_long n c)
