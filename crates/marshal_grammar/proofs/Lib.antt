@@ -8,5 +8,8 @@ pub mod Tables
 pub mod WrittenLongs
 pub mod Pieces
 pub mod WrittenLeaves
+pub mod WrittenSymbols
+pub mod Parts
+pub mod WrittenParts
 pub mod Answering
 pub mod Rows

@@ -51,10 +51,10 @@ string_gives s c h rest =
 pub nodes_give : (at k : ℕ) (c : Context) (bs : List ℕ) → c.nodes + k ≤ max_nodes → read (count_nodes at k) c bs ≡ Ok (tt, add_nodes k c, bs)
 nodes_give at k c bs h = rw (not_more (c.nodes + k) max_nodes h) refl
 
-linked_gives : (at k : ℕ) (s : List ℕ) (c : Context) → k < 2 ^ 32 → slice_get c.symbols k ≡ Some s → Gives (linked_symbol at) c (long_from k) s (after_long k c)
+pub linked_gives : (at k : ℕ) (s : List ℕ) (c : Context) → k < 2 ^ 32 → slice_get c.symbols k ≡ Some s → Gives (linked_symbol at) c (long_from k) s (after_long k c)
 linked_gives at k s c h e rest = rw (long_gives k c rest h, long_length k rest) (ap (λ (o : Option (List ℕ)). read (some_symbol at o) (after_long k c) rest) e)
 
-plain_gives : (at : ℕ) (s : List ℕ) (c : Context) → length s < 2 ^ 32 → all_ascii s ≡ true → Gives (plain_symbol at) c (string_bytes_of s) s (add_symbol s (after_string s c))
+pub plain_gives : (at : ℕ) (s : List ℕ) (c : Context) → length s < 2 ^ 32 → all_ascii s ≡ true → Gives (plain_symbol at) c (string_bytes_of s) s (add_symbol s (after_string s c))
 plain_gives at s c h e rest = rw (string_gives s c h rest, e) refl
 
 -- where a symbol may stand, a symbol of the written form is read, and those that wait for it go on
