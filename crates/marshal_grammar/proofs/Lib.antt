@@ -11,5 +11,6 @@ pub mod WrittenLeaves
 pub mod WrittenSymbols
 pub mod Parts
 pub mod WrittenParts
+pub mod WrittenForms
 pub mod Answering
 pub mod Rows
