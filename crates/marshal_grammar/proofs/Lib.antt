@@ -12,5 +12,7 @@ pub mod WrittenSymbols
 pub mod Parts
 pub mod WrittenParts
 pub mod WrittenForms
+pub mod WrittenHashes
+pub mod WrittenObjects
 pub mod Answering
 pub mod Rows
