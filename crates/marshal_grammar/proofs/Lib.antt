@@ -14,5 +14,10 @@ pub mod WrittenParts
 pub mod WrittenForms
 pub mod WrittenHashes
 pub mod WrittenObjects
+pub mod WrittenDumped
+pub mod WrittenBare
+pub mod WrittenRemotes
+pub mod RoundTrip
+pub mod ShortestLongs
 pub mod Answering
 pub mod Rows

@@ -1,7 +1,7 @@
 -- The parts of a value, as one list.
-use Rattle.std.proofs.Common.{◌≡◌, ℕ, List, [], ◌∷◌, map, Option, Some, None, refl, ap, sym, ◌∙◌, subst}
+use Rattle.std.proofs.Common.{ℕ, List, [], ◌∷◌, map, Some, None, ◌∙◌, subst}
 use Rattle.drb_tree.specs.declared.Tree.{Tree}
-use Rattle.drb_tree.specs.declared.Tree.TheViews.{roll-Tree, out-Tree, out-roll-Tree}
+use Rattle.drb_tree.specs.declared.Tree.TheViews.{roll-Tree, out-roll-Tree}
 use Rattle.drb_tree.specs.declared.Tree.TheOpen.{Tree-F}
 use Rattle.drb_tree.specs.declared.Tree.TheFolds.{map-Tree, every-Tree, every_here-Tree, every_held-Tree}
 

@@ -1,20 +1,20 @@
 -- What is written of a count, a string, a symbol and an encoding is read again, whatever follows.
-use Rattle.std.proofs.Common.{◌≡◌, ℕ, zero, suc, ◌+◌, ◌-◌, ◌*◌, ◌/◌, ◌^◌, ◌<◌, ◌≤◌, ◌⊎◌, inl, inr, ℤ, pos, List, [], ◌∷◌, ◌++◌, length, take, drop, Option, Some, None, Result, Ok, Err, Bool, true, false, refl, ap, sym, ◌∙◌, arith, cond, nat_lt, length-append, append_assoc, append-nil, slice_get}
-use Rattle.std.specs.Prelude.{nat_le, bytes_eq, position, ◌||◌, ◌&&◌}
+use Rattle.std.proofs.Common.{◌≡◌, ℕ, ◌+◌, ◌-◌, ◌*◌, ◌^◌, ◌<◌, ◌≤◌, inl, pos, List, [], ◌∷◌, ◌++◌, length, Option, Some, None, Ok, Bool, true, false, refl, ap, ◌∙◌, arith, length-append, append_assoc, slice_get}
+use Rattle.std.specs.Prelude.{nat_le, bytes_eq, position, ◌||◌}
 use Rattle.std.specs.Str.{is_utf8}
 use Rattle.std.proofs.lemmas.Grind.{common_steps}
 use Rattle.drb_tree.specs.declared.Code.{Code}
-use Rattle.drb_tree.specs.declared.Code.TheVariants.{Binary, Ascii, Utf8}
+use Rattle.drb_tree.specs.declared.Code.TheVariants.{Ascii, Utf8}
 use Rattle.drb_tree.specs.Same.{all_ascii}
 use Rattle.drb_tree.specs.Sizes.{heavy}
 use Rattle.drb_tree.specs.Kept.{max_nodes}
-use Rattle.marshal_grammar.specs.Longs.{Long, long_of}
+use Rattle.marshal_grammar.specs.Longs.{long_of}
 use Rattle.marshal_grammar.specs.Contexts.{Context, past, add_symbol, add_nodes}
 use Rattle.marshal_grammar.specs.Grammar.{Grammar, rounds}
-use Rattle.marshal_grammar.specs.Reading.{Read, next, go_on, read}
+use Rattle.marshal_grammar.specs.Reading.{next, go_on, read}
 use Rattle.marshal_grammar.specs.Counts.{count, string, count_nodes}
-use Rattle.marshal_grammar.specs.Symbols.{some_symbol, linked_symbol, plain_symbol, is_name, encoding, encoding_value, ended, symbol_round, symbol, name, marked_symbol}
-use Rattle.marshal_grammar.specs.Spelled.{long_from, string_bytes_of, Writing, these, ◌then◌, new_symbol, known_or, linked_or, ascii_symbol, encoding_bytes, utf8_symbol, symbol_bytes}
+use Rattle.marshal_grammar.specs.Symbols.{some_symbol, linked_symbol, plain_symbol, is_name, encoding, encoding_value, ended, symbol_round, symbol, name}
+use Rattle.marshal_grammar.specs.Spelled.{long_from, string_bytes_of, Writing, these, ◌then◌, new_symbol, known_or, ascii_symbol, encoding_bytes, utf8_symbol, symbol_bytes}
 use Rattle.marshal_grammar.proofs.LongLists.{long_again, not_less, take_seam, drop_seam}
 use Rattle.marshal_grammar.proofs.WrittenLongs.{long_from_is}
 use Rattle.marshal_grammar.proofs.Rounds.{rounds_read}

@@ -1,6 +1,5 @@
 -- Rounds, one after the other.
-use Rattle.std.proofs.Common.{◌≡◌, ℕ, zero, suc, ◌+◌, ◌<◌, ◌≤◌, ◌⊎◌, inl, inr, List, [], ◌∷◌, ◌++◌, length, Result, Ok, Err, refl, ap, sym, ◌∙◌, arith, length-append}
-use Rattle.marshal_grammar.specs.declared.refusal.Refusal.{Refusal}
+use Rattle.std.proofs.Common.{◌≡◌, ℕ, zero, suc, ◌+◌, ◌<◌, ◌≤◌, ◌⊎◌, inl, inr, List, [], ◌∷◌, length, Ok, Err, refl, ap, ◌∙◌, arith, length-append}
 use Rattle.marshal_grammar.specs.Contexts.{Context, past}
 use Rattle.marshal_grammar.specs.Grammar.{Grammar, rounds}
 use Rattle.marshal_grammar.specs.Reading.{Read, next, go_on, in_rounds, read}

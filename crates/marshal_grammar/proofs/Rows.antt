@@ -1,20 +1,19 @@
 -- Dumps read and written, byte by byte.
-use Rattle.std.specs.Prelude.{ℕ, ◌≡◌, List, [], ◌∷◌, Ok, Err, refl, pos, negsuc, true, Some, None}
-use Rattle.drb_tree.specs.declared.Code.TheVariants.{Binary, Ascii, Utf8}
-use Rattle.drb_tree.specs.declared.RefId.TheVariants as R
+use Rattle.std.specs.Prelude.{ℕ, ◌≡◌, List, [], ◌∷◌, Ok, refl, pos, negsuc, None}
+use Rattle.drb_tree.specs.declared.Code.TheVariants.{Utf8}
 use Rattle.drb_tree.specs.declared.Tree.{Tree}
-use Rattle.drb_tree.specs.declared.Tree.TheFolds.{fold-Tree, fold-roll-Tree, map-Tree}
+use Rattle.drb_tree.specs.declared.Tree.TheFolds.{fold-roll-Tree, map-Tree}
 use Rattle.drb_tree.specs.declared.Tree.TheOpen.{Tree-F}
 use Rattle.drb_tree.specs.declared.Tree.TheViews.{roll-Tree}
 use Rattle.marshal_grammar.specs.declared.refusal.Why.{Why}
 use Rattle.marshal_grammar.specs.declared.refusal.Why.TheVariants as why
-use Rattle.marshal_grammar.specs.Contexts.{Context, opening}
+use Rattle.marshal_grammar.specs.Contexts.{Context}
 use Rattle.marshal_grammar.specs.Symbols.{symbol}
-use Rattle.marshal_grammar.specs.Trees.{nil, bool, int, sym, text, list, hash, dumped, remote, class, object}
+use Rattle.marshal_grammar.specs.Trees.{int, sym, text, list, hash}
 use Rattle.marshal_grammar.specs.Values.{body, value}
 use Rattle.marshal_grammar.specs.Dumps.{dump, dump_with, reference, dump_of}
 use Rattle.marshal_grammar.specs.Reading.{refuse}
-use Rattle.marshal_grammar.specs.Spelled.{these, spelled, Writing, writing, writing_step}
+use Rattle.marshal_grammar.specs.Spelled.{these, Writing, writing, writing_step}
 
 -- one layer of what a value writes
 pub writing_roll : (l : Tree-F Tree) → writing (roll-Tree l) ≡ writing_step (map-Tree Tree Writing writing l)

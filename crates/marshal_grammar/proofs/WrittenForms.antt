@@ -1,28 +1,23 @@
 -- What is written of a value with parts is read again, where its parts are.
-use Rattle.std.proofs.Common.{◌≡◌, ℕ, zero, suc, ◌+◌, ◌-◌, ◌*◌, ◌/◌, ◌<◌, ◌≤◌, ◌^◌, max, List, [], ◌∷◌, ◌++◌, length, map, Option, Some, None, Result, Ok, Err, Bool, true, false, refl, ap, sym, ◌∙◌, arith, length-append, append_assoc, subst}
-use Rattle.std.specs.Prelude.{IsTrue, bytes_eq, All, IsUtf8, nat_le}
-use Rattle.std.specs.Str.{is_utf8}
-use Rattle.std.proofs.lemmas.Str.{is_utf8-from_IsUtf8}
-use Rattle.std.proofs.lemmas.Slice.Eq.{bytes_eq-Decides}
+use Rattle.std.proofs.Common.{◌≡◌, ℕ, zero, suc, ◌+◌, ◌*◌, ◌<◌, ◌≤◌, ◌^◌, List, [], ◌∷◌, ◌++◌, length, map, Some, None, refl, ap, sym, ◌∙◌, arith, append_assoc, subst}
 use Rattle.std.proofs.lemmas.List.{length-map}
-use Rattle.std.proofs.lemmas.Grind.{common_steps}
 use Rattle.drb_tree.specs.declared.Remote.{Remote}
 use Rattle.drb_tree.specs.declared.Tree.{Tree}
-use Rattle.drb_tree.specs.declared.Tree.TheViews.{roll-Tree, out-Tree, out-roll-Tree}
+use Rattle.drb_tree.specs.declared.Tree.TheViews.{roll-Tree}
 use Rattle.drb_tree.specs.declared.Tree.TheOpen.{Tree-F}
 use Rattle.drb_tree.specs.declared.Tree.TheFolds.{fold-roll-Tree, map-Tree, every-Tree, ind-Tree}
-use Rattle.drb_tree.specs.Sizes.{depth, depth_step, nodes, nodes_step, heavy, most, most_pairs, most_fields, total, total_pairs, total_fields}
-use Rattle.drb_tree.specs.Kept.{max_nodes, max_pairs, Keeps, InRange, Small, keys_distinct, names_distinct, FieldsKept, remote_class}
-use Rattle.marshal_grammar.specs.Contexts.{Context, past, add_nodes, begin_object, finish_object, add_object}
+use Rattle.drb_tree.specs.Sizes.{depth, depth_step, nodes, nodes_step, most, total}
+use Rattle.drb_tree.specs.Kept.{max_nodes, Keeps, InRange, Small}
+use Rattle.marshal_grammar.specs.Contexts.{Context, past, add_nodes, begin_object, finish_object}
 use Rattle.marshal_grammar.specs.Grammar.{Grammar}
-use Rattle.marshal_grammar.specs.Reading.{Read, next, read}
+use Rattle.marshal_grammar.specs.Reading.{read}
 use Rattle.marshal_grammar.specs.Trees as tree
-use Rattle.marshal_grammar.specs.Values.{body, value, values, pairs, fields}
-use Rattle.marshal_grammar.specs.Spelled.{long_from, string_bytes_of, Writing, these, ◌then◌, symbol_bytes, each_value, each_pair, each_field, fields_bytes, dumped_bytes, writing, writing_step}
-use Rattle.marshal_grammar.proofs.Pieces.{Gives, Counts, after_long, after_string, count_gives, string_gives, nodes_give, name_gives, not_more}
-use Rattle.marshal_grammar.proofs.WrittenLeaves.{Puts, plain}
-use Rattle.marshal_grammar.proofs.Parts.{Each, pair_parts, field_parts, parts, here_every, parts_every, each_three}
-use Rattle.marshal_grammar.proofs.WrittenParts.{bytes_then, counts_then, counts_are, counts_none, Kept, Written, Such, tree_of, values_put, pair_of, pair_depth, pair_nodes, pair_writing, pairs_put, field_of, field_depth, field_nodes, field_writing, fields_put}
+use Rattle.marshal_grammar.specs.Values.{body, value}
+use Rattle.marshal_grammar.specs.Spelled.{long_from, Writing, these, ◌then◌, each_value, writing, writing_step}
+use Rattle.marshal_grammar.proofs.Pieces.{after_long, count_gives, nodes_give}
+use Rattle.marshal_grammar.proofs.WrittenLeaves.{Puts}
+use Rattle.marshal_grammar.proofs.Parts.{Each, parts, parts_every, each_three}
+use Rattle.marshal_grammar.proofs.WrittenParts.{Kept, Written, Such, tree_of, values_put}
 
 -- one layer of what is written, of the nodes and of the depth
 pub writing_roll : (l : Tree-F Tree) → writing (roll-Tree l) ≡ writing_step (map-Tree Tree Writing writing l)

@@ -1,7 +1,5 @@
 -- What is written of a value without parts is read again.
-use Rattle.std.proofs.Common.{◌≡◌, ℕ, zero, suc, ◌+◌, ◌-◌, ◌*◌, ◌/◌, ◌%◌, ◌^◌, ◌<◌, ◌≤◌, ◌⊎◌, inl, inr, ℤ, pos, negsuc, List, [], ◌∷◌, ◌++◌, length, take, drop, Option, Some, None, Result, Ok, Err, Bool, true, false, refl, ap, sym, ◌∙◌, arith, cond, nat_lt, ◌==◌, length-append, append_assoc, append-nil}
-use Rattle.std.specs.Prelude.{nat_le}
-use Rattle.std.specs.Str.{is_utf8}
+use Rattle.std.proofs.Common.{◌≡◌, ℕ, zero, suc, ◌+◌, ◌-◌, ◌*◌, ◌/◌, ◌^◌, ◌<◌, ◌≤◌, ℤ, pos, negsuc, List, [], ◌∷◌, ◌++◌, length, Ok, Bool, true, false, refl, ap, sym, ◌∙◌, arith, cond, nat_lt, ◌==◌, length-append, append_assoc}
 use native.Mathlib.Numerals.{unary_clauses}
 use Rattle.std.proofs.lemmas.Grind.{common_steps}
 use Rattle.drb_tree.specs.declared.Code.{Code}
@@ -11,17 +9,17 @@ use Rattle.drb_tree.specs.Same.{all_ascii}
 use Rattle.drb_tree.specs.Sizes.{heavy}
 use Rattle.drb_tree.specs.Kept.{max_nodes}
 use Rattle.drb_tree.specs.declared.Remote.{Remote}
-use Rattle.marshal_grammar.specs.Longs.{Long, long_of, little}
-use Rattle.marshal_grammar.specs.Contexts.{Context, past, add_symbol, add_nodes, add_object}
+use Rattle.marshal_grammar.specs.Longs.{Long, little}
+use Rattle.marshal_grammar.specs.Contexts.{Context, past, add_nodes, add_object}
 use Rattle.marshal_grammar.specs.Grammar.{Grammar}
-use Rattle.marshal_grammar.specs.Reading.{Read, next, read}
+use Rattle.marshal_grammar.specs.Reading.{read}
 use Rattle.marshal_grammar.specs.Symbols.{encoding_value}
 use Rattle.marshal_grammar.specs.Trees as tree
-use Rattle.marshal_grammar.specs.Values.{body, value, is_i128, signed}
-use Rattle.marshal_grammar.specs.Spelled.{bytes_of, long_from, long_below, string_bytes_of, Writing, these, ◌then◌, encoding_bytes, text_bytes, units, big_bytes, int_bytes}
-use Rattle.marshal_grammar.proofs.LongLists.{long_again, less, not_less, less_true, less_false, take_seam, drop_seam}
+use Rattle.marshal_grammar.specs.Values.{body, value, is_i128}
+use Rattle.marshal_grammar.specs.Spelled.{bytes_of, long_from, long_below, string_bytes_of, Writing, these, ◌then◌, encoding_bytes, text_bytes, units, int_bytes}
+use Rattle.marshal_grammar.proofs.LongLists.{long_again, less, not_less, less_true, take_seam, drop_seam}
 use Rattle.marshal_grammar.proofs.WrittenLongs.{long_from_is, long_below_is, length_bytes_of}
-use Rattle.marshal_grammar.proofs.Pieces.{Gives, Counts, after_long, after_string, long_gives, long_length, count_gives, string_gives, nodes_give, encoding_gives, utf8_value, ascii_value}
+use Rattle.marshal_grammar.proofs.Pieces.{Gives, Counts, after_long, after_string, long_gives, long_length, string_gives, nodes_give, encoding_gives, utf8_value, ascii_value}
 
 -- what is written is read as t, with so many levels left, and k nodes
 abbrev pub Puts : Grammar Remote → ℕ → Writing → ℕ → Tree → Context → Type 0
@@ -38,7 +36,7 @@ few_case : (k m : ℕ) → units k (m / 65536) ≤ k → (b : Bool) → cond b 0
 few_case k m h true = omega arith
 few_case k m h false = omega (arith, h)
 
-units_few : (k m : ℕ) → units k m ≤ k
+pub units_few : (k m : ℕ) → units k m ≤ k
 units_few zero m = omega arith
 units_few (suc k) m = few_case k m (units_few k (m / 65536)) (m == 0)
 

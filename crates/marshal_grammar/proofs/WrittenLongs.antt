@@ -1,10 +1,10 @@
 -- The written spelling of a long is one.
-use Rattle.std.proofs.Common.{◌≡◌, ℕ, zero, suc, ◌+◌, ◌-◌, ◌*◌, ◌/◌, ◌%◌, ◌^◌, ◌<◌, ◌≤◌, ◌⊎◌, inl, inr, ℤ, pos, negsuc, ◌-ℤ◌, List, [], ◌∷◌, length, Bool, true, false, refl, ap, sym, ◌∙◌, arith, cond, nat_lt, ◌==◌}
+use Rattle.std.proofs.Common.{◌≡◌, ℕ, zero, suc, ◌+◌, ◌-◌, ◌*◌, ◌/◌, ◌^◌, ◌<◌, ◌≤◌, pos, negsuc, ◌-ℤ◌, [], ◌∷◌, length, Bool, true, false, refl, ap, sym, arith, nat_lt, ◌==◌}
 use native.Mathlib.Numerals.{unary_clauses}
 use Rattle.std.proofs.lemmas.Grind.{common_steps}
-use Rattle.marshal_grammar.specs.Longs.{Long, little, more_after, long_value}
+use Rattle.marshal_grammar.specs.Longs.{Long, little}
 use Rattle.marshal_grammar.specs.Spelled.{bytes_of, fewest, long_from, long_below}
-use Rattle.marshal_grammar.proofs.LongLists.{less, not_less, less_true, less_false}
+use Rattle.marshal_grammar.proofs.LongLists.{less, not_less, less_true}
 
 pub length_bytes_of : (k n : ℕ) → length (bytes_of k n) ≡ k
 length_bytes_of zero n = refl
@@ -23,7 +23,7 @@ little_bytes_of (suc k) n h =
 fewest_is : (n : ℕ) → n < 2 ^ 32 → (1 ≤ fewest n) × (fewest n ≤ 4) × (n < 256 ^ fewest n)
 fewest_is n h = grind (arith, common_steps)
 
-minus : (a b m : ℕ) → a + suc m ≡ b → pos a -ℤ pos b ≡ negsuc m
+pub minus : (a b m : ℕ) → a + suc m ≡ b → pos a -ℤ pos b ≡ negsuc m
 minus a b m e = grind (arith, common_steps)
 
 few_is : (k n : ℕ) → 1 ≤ k → k ≤ 4 → n < 256 ^ k → Long (k ∷ bytes_of k n) (pos n)

@@ -1,27 +1,23 @@
 -- What is written of an object, a struct, a dumped or a wrapped value is read again.
-use Rattle.std.proofs.Common.{◌≡◌, ℕ, zero, suc, ◌+◌, ◌*◌, ◌/◌, ◌≤◌, ◌<◌, ◌^◌, List, [], ◌∷◌, ◌++◌, length, map, Option, Some, None, Ok, Bool, true, false, refl, ap, sym, ◌∙◌, arith, append_assoc}
-use Rattle.std.specs.Prelude.{bytes_eq, All, IsUtf8}
-use Rattle.std.specs.Str.{is_utf8}
+use Rattle.std.proofs.Common.{◌≡◌, ℕ, zero, suc, ◌+◌, ◌*◌, ◌≤◌, ◌<◌, ◌^◌, List, ◌∷◌, ◌++◌, length, map, refl, ap, ◌∙◌, arith, append_assoc}
+use Rattle.std.specs.Prelude.{IsUtf8}
 use Rattle.std.proofs.lemmas.Str.{is_utf8-from_IsUtf8}
-use Rattle.std.proofs.lemmas.Slice.Eq.{bytes_eq-Decides}
 use Rattle.std.proofs.lemmas.List.{length-map}
-use Rattle.std.proofs.lemmas.Grind.{common_steps}
 use Rattle.drb_tree.specs.declared.Remote.{Remote}
 use Rattle.drb_tree.specs.declared.Tree.{Tree}
 use Rattle.drb_tree.specs.declared.Tree.TheViews.{roll-Tree}
 use Rattle.drb_tree.specs.declared.Tree.TheOpen.{Tree-F}
-use Rattle.drb_tree.specs.Sizes.{depth, nodes, heavy, most_fields, total_fields}
-use Rattle.drb_tree.specs.Kept.{max_nodes, max_pairs, Keeps, Small, names_distinct, FieldsKept, remote_class}
-use Rattle.marshal_grammar.specs.Contexts.{Context, past, add_nodes, begin_object, finish_object, add_object}
+use Rattle.drb_tree.specs.Sizes.{heavy, most_fields, total_fields}
+use Rattle.drb_tree.specs.Kept.{max_nodes, max_pairs, Keeps, Small, FieldsKept}
+use Rattle.marshal_grammar.specs.Contexts.{Context, past, add_nodes, begin_object, finish_object}
 use Rattle.marshal_grammar.specs.Grammar.{Grammar}
 use Rattle.marshal_grammar.specs.Reading.{read}
 use Rattle.marshal_grammar.specs.Trees as tree
-use Rattle.marshal_grammar.specs.Values.{body, value, fields_value, dumped_value, marked_dumped}
-use Rattle.marshal_grammar.specs.Spelled.{long_from, string_bytes_of, Writing, these, ◌then◌, symbol_bytes, each_field, fields_bytes, dumped_bytes, writing}
-use Rattle.marshal_grammar.proofs.Pieces.{Gives, Counts, after_long, after_string, count_gives, string_gives, nodes_give, name_gives, not_more}
-use Rattle.marshal_grammar.proofs.WrittenLeaves.{Puts}
+use Rattle.marshal_grammar.specs.Values.{body, value, fields_value}
+use Rattle.marshal_grammar.specs.Spelled.{long_from, these, ◌then◌, symbol_bytes, each_field, fields_bytes, writing}
+use Rattle.marshal_grammar.proofs.Pieces.{Gives, Counts, after_long, count_gives, nodes_give, name_gives, not_more}
 use Rattle.marshal_grammar.proofs.Parts.{Each, field_parts, here_every}
-use Rattle.marshal_grammar.proofs.WrittenParts.{bytes_then, counts_then, Kept, Written, Such, field_of, field_depth, field_nodes, field_writing, fields_put}
+use Rattle.marshal_grammar.proofs.WrittenParts.{bytes_then, Kept, Written, Such, field_of, field_depth, field_nodes, field_writing, fields_put}
 use Rattle.marshal_grammar.proofs.WrittenForms.{by_layer, kept_parts, nodes_roll, depth_roll}
 
 module _ (remotes : Grammar Remote) where

@@ -1,6 +1,6 @@
 -- What is written of the parts of a value is read again, where each of them is.
-use Rattle.std.proofs.Common.{◌≡◌, ℕ, zero, suc, ◌+◌, ◌-◌, ◌*◌, ◌/◌, ◌<◌, ◌≤◌, max, List, [], ◌∷◌, ◌++◌, length, map, Option, Some, None, Result, Ok, Err, Bool, true, false, not, ◌&&◌, ◌||◌, refl, ap, sym, ◌∙◌, arith, cond, length-append, append_assoc, append-nil, subst}
-use Rattle.std.specs.Prelude.{IsTrue, bytes_eq, All, IsUtf8}
+use Rattle.std.proofs.Common.{◌≡◌, ℕ, suc, ◌+◌, ◌*◌, ◌≤◌, List, [], ◌∷◌, ◌++◌, length, map, Ok, Bool, true, false, not, ◌&&◌, ◌||◌, refl, ap, sym, ◌∙◌, arith, append_assoc, append-nil, subst}
+use Rattle.std.specs.Prelude.{bytes_eq, All, IsUtf8}
 use Rattle.std.specs.Str.{is_utf8}
 use Rattle.std.proofs.lemmas.Str.{is_utf8-from_IsUtf8}
 use Rattle.std.proofs.lemmas.Slice.Eq.{bytes_eq-Decides}
@@ -13,7 +13,7 @@ use Rattle.drb_tree.specs.Sizes.{depth, nodes, heavy, most, most_pairs, most_fie
 use Rattle.drb_tree.specs.Kept.{max_nodes, Keeps, InRange, Small, has_key, keys_distinct_after, has_name, names_distinct}
 use Rattle.marshal_grammar.specs.Contexts.{Context}
 use Rattle.marshal_grammar.specs.Grammar.{Grammar}
-use Rattle.marshal_grammar.specs.Reading.{Read, next, read}
+use Rattle.marshal_grammar.specs.Reading.{read}
 use Rattle.marshal_grammar.specs.Values.{value, values, pairs, fields}
 use Rattle.marshal_grammar.specs.Spelled.{Writing, these, ◌then◌, symbol_bytes, each_value, each_pair, each_field, writing}
 use Rattle.marshal_grammar.proofs.Pieces.{Gives, Counts, name_gives}

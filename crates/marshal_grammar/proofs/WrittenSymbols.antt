@@ -1,5 +1,5 @@
 -- What is written of a symbol as a value is read again.
-use Rattle.std.proofs.Common.{◌≡◌, ℕ, zero, suc, ◌+◌, ◌-◌, ◌*◌, ◌/◌, ◌^◌, ◌<◌, ◌≤◌, List, [], ◌∷◌, ◌++◌, length, Option, Some, None, Result, Ok, Err, Bool, true, false, refl, ap, sym, ◌∙◌, arith, cond, length-append, append_assoc}
+use Rattle.std.proofs.Common.{◌≡◌, ℕ, suc, ◌+◌, ◌*◌, ◌≤◌, List, [], ◌∷◌, ◌++◌, length, Option, Some, None, Bool, true, false, refl, ap, ◌∙◌, arith, length-append, append_assoc}
 use Rattle.std.specs.Prelude.{bytes_eq, position}
 use Rattle.std.specs.Str.{is_utf8}
 use Rattle.drb_tree.specs.declared.Remote.{Remote}
@@ -9,12 +9,12 @@ use Rattle.drb_tree.specs.Sizes.{heavy}
 use Rattle.drb_tree.specs.Kept.{max_nodes}
 use Rattle.marshal_grammar.specs.Contexts.{Context, past, add_symbol, add_nodes}
 use Rattle.marshal_grammar.specs.Grammar.{Grammar}
-use Rattle.marshal_grammar.specs.Reading.{Read, next, read}
+use Rattle.marshal_grammar.specs.Reading.{read}
 use Rattle.marshal_grammar.specs.Trees as tree
 use Rattle.marshal_grammar.specs.Values.{body, value}
 use Rattle.marshal_grammar.specs.Spelled.{long_from, string_bytes_of, Writing, these, ◌then◌, new_symbol, known_or, ascii_symbol, encoding_bytes, utf8_symbol, symbol_bytes}
 use Rattle.marshal_grammar.proofs.Tables.{position_get}
-use Rattle.marshal_grammar.proofs.Pieces.{Gives, Counts, after_long, after_string, string_gives, linked_gives, plain_gives, nodes_give, encoding_gives, utf8_value, is_name_utf8}
+use Rattle.marshal_grammar.proofs.Pieces.{after_long, after_string, string_gives, linked_gives, plain_gives, nodes_give, encoding_gives, utf8_value, is_name_utf8}
 use Rattle.marshal_grammar.proofs.WrittenLeaves.{Puts}
 
 module _ (remotes : Grammar Remote) (room : ℕ) where

@@ -1,8 +1,7 @@
 -- The one written spelling of a value: docs/MARSHAL.md, The written spelling.
-use Rattle.std.specs.Prelude.{ℕ, zero, suc, ◌+◌, ◌-◌, ◌*◌, ◌/◌, ◌%◌, ◌^◌, List, [], ◌∷◌, ◌++◌, length, Bool, true, false, ◌&&◌, ℤ, pos, negsuc, Option, Some, None, bytes_eq, nat_lt, ◌==◌, if◌then◌else◌, position}
+use Rattle.std.specs.Prelude.{ℕ, zero, suc, ◌+◌, ◌-◌, ◌*◌, ◌/◌, ◌%◌, ◌^◌, List, [], ◌∷◌, ◌++◌, length, ℤ, pos, negsuc, Option, Some, None, bytes_eq, nat_lt, ◌==◌, if◌then◌else◌, position}
 use Rattle.drb_tree.specs.declared.Code.{Code}
 use Rattle.drb_tree.specs.declared.Code.TheVariants.{Binary, Ascii, Utf8}
-use Rattle.drb_tree.specs.declared.Text.{Text}
 use Rattle.drb_tree.specs.declared.RefId.{RefId}
 use Rattle.drb_tree.specs.declared.RefId.TheVariants as R
 use Rattle.drb_tree.specs.declared.Remote.{Remote}
