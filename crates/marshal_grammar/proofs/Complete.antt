@@ -28,7 +28,7 @@ complete (must b w at) c d bs rest v s = rw (s.0, s.1, s.2) refl
 complete byte c d bs rest v s = rw (s.0, s.1) refl
 complete (bytes n) c d bs rest v s =
     rw (s.0, s.2, not_less (length (v ++ rest)) n (omega (arith, length-append v rest, s.1)), take_seam v rest n s.1, drop_seam v rest n s.1) refl
-complete long c d bs rest v s = 
+complete long c d bs rest v s =
     let l : length (bs ++ rest) - length rest ≡ length bs = omega (arith, length-append bs rest) in
     rw (s.1, long_again bs rest v s.0, l) refl
 complete context c d bs rest v s = rw (s.0, s.1, s.2) refl

@@ -79,21 +79,25 @@ enters ws b s c d all bs rest e k = ap (read (rounds symbol_round ws) c) e ∙ r
 link_enters : (s : List ℕ) (w : Writing) (c : Context) (n : ℕ) → Known s c (Some n) → length c.symbols < 2 ^ 31 → (d : Context) × Enters s (known_or s w) c d × Leaves 1 (known_or s w) c d
 link_enters s w c n k l =
     let g = position_get s c.symbols n k in
-    let d = after_long n (past 1 c) in
-    (d, (λ ws rest.
-        let q : (known_or s w c.symbols).0 ++ rest ≡ 59 ∷ (long_from n ++ rest) = rw k refl in
-        let r : read (symbol_round ws 59) (past 1 c) (long_from n ++ rest) ≡ read (ended ws s) d rest = rw (linked_gives (c.at + 1 - 1) n s (past 1 c) (omega (arith, g.0, l)) g.1 rest) refl in
-        enters ws 59 s c d ((known_or s w c.symbols).0 ++ rest) (long_from n ++ rest) rest q r),
-      record { symbols = rw k refl; few = omega arith; nodes = refl })
+    let d = after_long n (past 1 c) in (
+      d,
+      (λ ws rest.
+          let q : (known_or s w c.symbols).0 ++ rest ≡ 59 ∷ (long_from n ++ rest) = rw k refl in
+          let r : read (symbol_round ws 59) (past 1 c) (long_from n ++ rest) ≡ read (ended ws s) d rest = rw (linked_gives (c.at + 1 - 1) n s (past 1 c) (omega (arith, g.0, l)) g.1 rest) refl in
+          enters ws 59 s c d ((known_or s w c.symbols).0 ++ rest) (long_from n ++ rest) rest q r),
+      record { symbols = rw k refl; few = omega arith; nodes = refl },
+    )
 
 ascii_case : (s : List ℕ) (c : Context) (o : Option ℕ) → Known s c o → all_ascii s ≡ true → length s < 2 ^ 32 → length c.symbols < 2 ^ 31 → (d : Context) × Enters s (ascii_symbol s) c d × Leaves 1 (ascii_symbol s) c d
 ascii_case s c None k e h l =
-    let d = add_symbol s (after_string s (past 1 c)) in
-    (d, (λ ws rest.
-        let q : (ascii_symbol s c.symbols).0 ++ rest ≡ 58 ∷ (string_bytes_of s ++ rest) = rw k (append_assoc (58 ∷ string_bytes_of s) [] rest) in
-        let r : read (symbol_round ws 58) (past 1 c) (string_bytes_of s ++ rest) ≡ read (ended ws s) d rest = rw (plain_gives (c.at + 1 - 1) s (past 1 c) h e rest) refl in
-        enters ws 58 s c d ((ascii_symbol s c.symbols).0 ++ rest) (string_bytes_of s ++ rest) rest q r),
-      record { symbols = rw k refl; few = omega (arith, length-append c.symbols (s ∷ [])); nodes = refl })
+    let d = add_symbol s (after_string s (past 1 c)) in (
+      d,
+      (λ ws rest.
+          let q : (ascii_symbol s c.symbols).0 ++ rest ≡ 58 ∷ (string_bytes_of s ++ rest) = rw k (append_assoc (58 ∷ string_bytes_of s) [] rest) in
+          let r : read (symbol_round ws 58) (past 1 c) (string_bytes_of s ++ rest) ≡ read (ended ws s) d rest = rw (plain_gives (c.at + 1 - 1) s (past 1 c) h e rest) refl in
+          enters ws 58 s c d ((ascii_symbol s c.symbols).0 ++ rest) (string_bytes_of s ++ rest) rest q r),
+      record { symbols = rw k refl; few = omega (arith, length-append c.symbols (s ∷ [])); nodes = refl },
+    )
 ascii_case s c (Some n) k e h l = link_enters s (these (58 ∷ string_bytes_of s) then new_symbol s) c n k l
 
 pub ascii_enters : (s : List ℕ) (c : Context) → all_ascii s ≡ true → length s < 2 ^ 32 → length c.symbols < 2 ^ 31 → (d : Context) × Enters s (ascii_symbol s) c d × Leaves 1 (ascii_symbol s) c d
@@ -112,12 +116,14 @@ pub encoding_gives : (b at : ℕ) (code : Code) (c : Context) → ((d : Context)
 unfolding symbol
 encoding_gives b at code c v l =
     let f = ascii_enters (69 ∷ []) (past 1 c) refl (omega arith) l in
-    let x = ascii_symbol (69 ∷ []) c.symbols in
-    (past 1 f.0, (λ rest.
-        let q : (encoding_bytes b c.symbols).0 ++ rest ≡ long_from 1 ++ (x.0 ++ (b ∷ rest)) = ap (λ (ys : List ℕ). 6 ∷ ys) (append_assoc x.0 (b ∷ []) rest) in
-        let r : read symbol (past 1 c) (x.0 ++ (b ∷ rest)) ≡ Ok (69 ∷ [], f.0, b ∷ rest) = f.1 [] (b ∷ rest) in
-        ap (read (encoding at) c) q ∙ rw (count_gives 1 c (omega arith) (x.0 ++ (b ∷ rest)), r, v f.0 rest) refl),
-      record { symbols = f.2.symbols; few = f.2.few; nodes = f.2.nodes })
+    let x = ascii_symbol (69 ∷ []) c.symbols in (
+      past 1 f.0,
+      (λ rest.
+          let q : (encoding_bytes b c.symbols).0 ++ rest ≡ long_from 1 ++ (x.0 ++ (b ∷ rest)) = ap (λ (ys : List ℕ). 6 ∷ ys) (append_assoc x.0 (b ∷ []) rest) in
+          let r : read symbol (past 1 c) (x.0 ++ (b ∷ rest)) ≡ Ok (69 ∷ [], f.0, b ∷ rest) = f.1 [] (b ∷ rest) in
+          ap (read (encoding at) c) q ∙ rw (count_gives 1 c (omega arith) (x.0 ++ (b ∷ rest)), r, v f.0 rest) refl),
+      record { symbols = f.2.symbols; few = f.2.few; nodes = f.2.nodes },
+    )
 
 or_true : (a b : Bool) → b ≡ true → a || b ≡ true
 or_true a b e = grind (arith, common_steps)
@@ -131,17 +137,19 @@ utf8_case s c None k e h l =
     let c2 = add_symbol s (after_string s (past 1 (past 1 c))) in
     let c3 = after_long 1 c2 in
     let f = ascii_enters (69 ∷ []) c3 refl (omega arith) (omega (arith, l, length-append c.symbols (s ∷ []))) in
-    let x = ascii_symbol (69 ∷ []) (c.symbols ++ (s ∷ [])) in
-    (past 1 f.0, (λ ws rest.
-        let more = string_bytes_of s ++ (long_from 1 ++ (x.0 ++ (84 ∷ rest))) in
-        let q : (utf8_symbol s c.symbols).0 ++ rest ≡ 73 ∷ 58 ∷ more =
-            rw k (append_assoc (73 ∷ 58 ∷ string_bytes_of s) (6 ∷ (x.0 ++ (84 ∷ []))) rest ∙ ap (λ (ys : List ℕ). 73 ∷ 58 ∷ (string_bytes_of s ++ (6 ∷ ys))) (append_assoc x.0 (84 ∷ []) rest)) in
-        let r : read (symbol_round ws 73) (past 1 c) (58 ∷ more) ≡ Ok (inl ((at, s) ∷ ws), c3, x.0 ++ (84 ∷ rest)) =
-            rw (string_gives s (past 1 (past 1 c)) h (long_from 1 ++ (x.0 ++ (84 ∷ rest))), count_gives 1 c2 (omega arith) (x.0 ++ (84 ∷ rest))) refl in
-        let v : read (ended ((at, s) ∷ ws) (69 ∷ [])) f.0 (84 ∷ rest) ≡ read (ended ws s) (past 1 f.0) rest = rw (is_name_utf8 s e) refl in
-        ap (read (rounds symbol_round ws) c) q ∙ rounds_read symbol_round ws 73 c (58 ∷ more) ∙ ap (λ r. next r (go_on (λ t. read (rounds symbol_round t)))) r
+    let x = ascii_symbol (69 ∷ []) (c.symbols ++ (s ∷ [])) in (
+      past 1 f.0,
+      (λ ws rest.
+          let more = string_bytes_of s ++ (long_from 1 ++ (x.0 ++ (84 ∷ rest))) in
+          let q : (utf8_symbol s c.symbols).0 ++ rest ≡ 73 ∷ 58 ∷ more =
+          rw k (append_assoc (73 ∷ 58 ∷ string_bytes_of s) (6 ∷ (x.0 ++ (84 ∷ []))) rest ∙ ap (λ (ys : List ℕ). 73 ∷ 58 ∷ (string_bytes_of s ++ (6 ∷ ys))) (append_assoc x.0 (84 ∷ []) rest)) in
+          let r : read (symbol_round ws 73) (past 1 c) (58 ∷ more) ≡ Ok (inl ((at, s) ∷ ws), c3, x.0 ++ (84 ∷ rest)) =
+          rw (string_gives s (past 1 (past 1 c)) h (long_from 1 ++ (x.0 ++ (84 ∷ rest))), count_gives 1 c2 (omega arith) (x.0 ++ (84 ∷ rest))) refl in
+          let v : read (ended ((at, s) ∷ ws) (69 ∷ [])) f.0 (84 ∷ rest) ≡ read (ended ws s) (past 1 f.0) rest = rw (is_name_utf8 s e) refl in
+          ap (read (rounds symbol_round ws) c) q ∙ rounds_read symbol_round ws 73 c (58 ∷ more) ∙ ap (λ r. next r (go_on (λ t. read (rounds symbol_round t)))) r
           ∙ f.1 ((at, s) ∷ ws) (84 ∷ rest) ∙ ap (λ r. next r (go_on (λ t. read (rounds symbol_round t)))) v),
-      record { symbols = rw k f.2.symbols; few = omega (arith, f.2.few, length-append c.symbols (s ∷ [])); nodes = f.2.nodes })
+      record { symbols = rw k f.2.symbols; few = omega (arith, f.2.few, length-append c.symbols (s ∷ [])); nodes = f.2.nodes },
+    )
 utf8_case s c (Some n) k e h l =
     let f = link_enters s (these (73 ∷ 58 ∷ string_bytes_of s) then new_symbol s then encoding_bytes 84) c n k (omega (arith, l)) in
     (f.0, f.1, record { symbols = f.2.symbols; few = omega (arith, f.2.few); nodes = f.2.nodes })
@@ -166,6 +174,8 @@ pub record Counts (k : ℕ) (w : Writing) (c d : Context) : Type 0 where
 -- a class symbol or a name
 pub name_gives : (s : List ℕ) (c : Context) → is_utf8 s ≡ true → length c.symbols ≤ 2 * c.nodes → c.nodes + heavy s ≤ max_nodes → (d : Context) × Gives name c (symbol_bytes s c.symbols).0 s d × Counts (heavy s) (symbol_bytes s) c d
 name_gives s c e l h =
-    let f = symbol_gives s c e (omega (arith, h)) (omega (arith, l, h)) in
-    (add_nodes (heavy s) f.0, (λ rest. rw (f.1 rest, nodes_give c.at (heavy s) f.0 rest (omega (arith, f.2.nodes, h))) refl),
-      record { symbols = f.2.symbols; few = omega (arith, f.2.few); nodes = omega (arith, f.2.nodes) })
+    let f = symbol_gives s c e (omega (arith, h)) (omega (arith, l, h)) in (
+      add_nodes (heavy s) f.0,
+      (λ rest. rw (f.1 rest, nodes_give c.at (heavy s) f.0 rest (omega (arith, f.2.nodes, h))) refl),
+      record { symbols = f.2.symbols; few = omega (arith, f.2.few); nodes = omega (arith, f.2.nodes) },
+    )

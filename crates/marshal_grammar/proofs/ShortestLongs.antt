@@ -80,9 +80,10 @@ up zero [] a e h = (long_from_is 0 (omega arith), omega arith)
 up zero (b ∷ bs) a e h = absurd (omega (arith, e))
 up (suc c) bs a e h =
     let k = little_below bs a in
-    let m : little bs < 256 ^ suc c = omega (arith, k, ap (λ n. 256 ^ n) e) in
-    (long_from_is (little bs) (omega (arith, m, powers (suc c) (omega (arith, h)))),
-     omega (arith, e, from_few (little bs) (suc c) (few_least (little bs) (suc c) (omega arith) (omega (arith, h)) m)))
+    let m : little bs < 256 ^ suc c = omega (arith, k, ap (λ n. 256 ^ n) e) in (
+      long_from_is (little bs) (omega (arith, m, powers (suc c) (omega (arith, h)))),
+      omega (arith, e, from_few (little bs) (suc c) (few_least (little bs) (suc c) (omega arith) (omega (arith, h)) m)),
+    )
 
 -- the byte alone
 alone : (c : ℕ) (bs : List ℕ) → 5 ≤ c → c < 128 → Shortest (c ∷ bs) (pos (c - 5))

@@ -38,9 +38,12 @@ module _ (remotes : Grammar Remote) where
       let f = name_gives s (past 1 c) (is_utf8-from_IsUtf8 s a.0) l (omega (arith, m, nodes_roll t)) in
       let e = after_string bs f.0 in
       let d = add_object (tree.dumped s bs []) (add_nodes (heavy bs) e) in
-      by_layer remotes (suc room) t c (d, (λ rest. ap (read (value remotes (suc room)) c) (ap (λ (ys : List ℕ). 117 ∷ ys) (bytes_then (symbol_bytes s) (these (string_bytes_of bs)) c.symbols f.0.symbols rest f.2.symbols))
-          ∙ rw (f.1 (string_bytes_of bs ++ rest), string_gives bs f.0 (omega (arith, m, nodes_roll t)) rest, held_read c.at s bs e rest (unlike s remote_class a.1), nodes_give c.at (heavy bs) e rest (omega (arith, f.2.nodes, m, nodes_roll t))) refl),
-        record { symbols = f.2.symbols; few = omega (arith, f.2.few); nodes = omega (arith, f.2.nodes) })
+      by_layer remotes (suc room) t c (
+        d,
+        (λ rest. ap (read (value remotes (suc room)) c) (ap (λ (ys : List ℕ). 117 ∷ ys) (bytes_then (symbol_bytes s) (these (string_bytes_of bs)) c.symbols f.0.symbols rest f.2.symbols))
+            ∙ rw (f.1 (string_bytes_of bs ++ rest), string_gives bs f.0 (omega (arith, m, nodes_roll t)) rest, held_read c.at s bs e rest (unlike s remote_class a.1), nodes_give c.at (heavy bs) e rest (omega (arith, f.2.nodes, m, nodes_roll t))) refl),
+        record { symbols = f.2.symbols; few = omega (arith, f.2.few); nodes = omega (arith, f.2.nodes) },
+      )
 
   full_written : (s bs : List ℕ) (q : List ℕ × Such remotes) (qs : List (List ℕ × Such remotes)) → Written remotes (roll-Tree (Tree-F.Dumped s bs (map (field_of remotes) (q ∷ qs))))
   unfolding value body
@@ -59,12 +62,22 @@ module _ (remotes : Grammar Remote) where
       let z : length (map (field_writing remotes) fs) ≡ n = length-map fs (field_writing remotes) in
       let d = add_object (tree.dumped s bs fs) g.0 in
       let str = string_bytes_of bs in
-      by_layer remotes (suc room) t c (rw z (d, (λ rest. ap (read (value remotes (suc room)) c) (ap (λ (ys : List ℕ). 73 ∷ 117 ∷ ys)
+      by_layer remotes (suc room) t c (rw z (
+        d,
+        (λ rest. ap (read (value remotes (suc room)) c) (ap (λ (ys : List ℕ). 73 ∷ 117 ∷ ys)
             (bytes_then (symbol_bytes s) (these str then these (long_from n) then w) c.symbols f.0.symbols rest f.2.symbols
-             ∙ ap (λ (ys : List ℕ). (symbol_bytes s c.symbols).0 ++ ys) (append_assoc str (long_from n ++ (w f.0.symbols).0) rest ∙ ap (λ (ys : List ℕ). str ++ ys) (append_assoc (long_from n) (w f.0.symbols).0 rest))))
-          ∙ rw (f.1 (str ++ (long_from n ++ ((w f.0.symbols).0 ++ rest))), string_gives bs f.0 (omega (arith, m, nodes_roll t)) (long_from n ++ ((w f.0.symbols).0 ++ rest)), held_read c.at s bs e (long_from n ++ ((w f.0.symbols).0 ++ rest)) (unlike s remote_class a.1),
-              count_gives n e (omega (arith, p)) ((w f.0.symbols).0 ++ rest), not_more n max_pairs p, nodes_give c.at (heavy bs) (after_long n e) ((w f.0.symbols).0 ++ rest) (omega (arith, f.2.nodes, m, nodes_roll t)), g.1 rest) refl),
-        record { symbols = g.2.symbols ∙ ap (λ v. (w v).1) f.2.symbols; few = omega (arith, f.2.few, g.2.few); nodes = omega (arith, f.2.nodes, g.2.nodes) }))
+            ∙ ap (λ (ys : List ℕ). (symbol_bytes s c.symbols).0 ++ ys) (append_assoc str (long_from n ++ (w f.0.symbols).0) rest ∙ ap (λ (ys : List ℕ). str ++ ys) (append_assoc (long_from n) (w f.0.symbols).0 rest))))
+            ∙ rw (
+              f.1 (str ++ (long_from n ++ ((w f.0.symbols).0 ++ rest))),
+              string_gives bs f.0 (omega (arith, m, nodes_roll t)) (long_from n ++ ((w f.0.symbols).0 ++ rest)),
+              held_read c.at s bs e (long_from n ++ ((w f.0.symbols).0 ++ rest)) (unlike s remote_class a.1),
+              count_gives n e (omega (arith, p)) ((w f.0.symbols).0 ++ rest),
+              not_more n max_pairs p,
+              nodes_give c.at (heavy bs) (after_long n e) ((w f.0.symbols).0 ++ rest) (omega (arith, f.2.nodes, m, nodes_roll t)),
+              g.1 rest,
+            ) refl),
+        record { symbols = g.2.symbols ∙ ap (λ v. (w v).1) f.2.symbols; few = omega (arith, f.2.few, g.2.few); nodes = omega (arith, f.2.nodes, g.2.nodes) },
+      ))
 
   pub dumped_written : (s bs : List ℕ) (qs : List (List ℕ × Such remotes)) → Written remotes (roll-Tree (Tree-F.Dumped s bs (map (field_of remotes) qs)))
   dumped_written s bs [] = bare_written s bs

@@ -75,9 +75,12 @@ module _ (remotes : Grammar Remote) where
       let z : length (map writing vs) ≡ n = length-map vs writing in
       let q : n < 2 ^ 32 = omega (arith, few_values vs, m) in
       let d = finish_object (length e.objects) (tree.list vs) g.0 in
-      rw z (d, (λ rest. ap (read (value remotes (suc room)) c) (append_assoc (91 ∷ long_from n) (w c.symbols).0 rest)
-          ∙ rw (count_gives n (past 1 c) q ((w c.symbols).0 ++ rest), nodes_give c.at 1 (after_long n (past 1 c)) ((w c.symbols).0 ++ rest) (omega (arith, m)), g.1 rest) refl),
-        record { symbols = g.2.symbols; few = omega (arith, g.2.few); nodes = omega (arith, g.2.nodes) })
+      rw z (
+        d,
+        (λ rest. ap (read (value remotes (suc room)) c) (append_assoc (91 ∷ long_from n) (w c.symbols).0 rest)
+            ∙ rw (count_gives n (past 1 c) q ((w c.symbols).0 ++ rest), nodes_give c.at 1 (after_long n (past 1 c)) ((w c.symbols).0 ++ rest) (omega (arith, m)), g.1 rest) refl),
+        record { symbols = g.2.symbols; few = omega (arith, g.2.few); nodes = omega (arith, g.2.nodes) },
+      )
 
   pub list_written : (ys : List (Such remotes)) → Written remotes (roll-Tree (Tree-F.List (map (tree_of remotes) ys)))
   list_written ys k zero c h l m = absurd (omega (arith, h, depth_roll (Tree-F.List (map (tree_of remotes) ys))))

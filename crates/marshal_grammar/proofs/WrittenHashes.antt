@@ -32,9 +32,12 @@ module _ (remotes : Grammar Remote) where
       let z : length (map (pair_writing remotes) ps) ≡ n = length-map ps (pair_writing remotes) in
       let q : n < 2 ^ 32 = omega (arith, p) in
       let d = finish_object (length e.objects) (tree.hash ps None) g.0 in
-      rw z (d, (λ rest. ap (read (value remotes (suc room)) c) (append_assoc (123 ∷ long_from n) (w c.symbols).0 rest)
-          ∙ rw (count_gives n (past 1 c) q ((w c.symbols).0 ++ rest), not_more n max_pairs p, nodes_give c.at 1 (after_long n (past 1 c)) ((w c.symbols).0 ++ rest) (omega (arith, m)), g.1 rest) refl),
-        record { symbols = g.2.symbols; few = omega (arith, g.2.few); nodes = omega (arith, g.2.nodes) })
+      rw z (
+        d,
+        (λ rest. ap (read (value remotes (suc room)) c) (append_assoc (123 ∷ long_from n) (w c.symbols).0 rest)
+            ∙ rw (count_gives n (past 1 c) q ((w c.symbols).0 ++ rest), not_more n max_pairs p, nodes_give c.at 1 (after_long n (past 1 c)) ((w c.symbols).0 ++ rest) (omega (arith, m)), g.1 rest) refl),
+        record { symbols = g.2.symbols; few = omega (arith, g.2.few); nodes = omega (arith, g.2.nodes) },
+      )
 
   default_goes : (qs : List (Such remotes × Such remotes)) (y : Such remotes) (room : ℕ) (c : Context) → let ps = map (pair_of remotes) qs in Each Kept (pair_parts ps) → Kept y.0 → keys_distinct ps ≡ true → length ps ≤ max_pairs
       → most_pairs (map (pair_depth remotes) ps) ≤ room → depth y.0 ≤ room → length c.symbols ≤ 2 * c.nodes → c.nodes + (1 + total_pairs (map (pair_nodes remotes) ps) + nodes y.0) ≤ max_nodes
@@ -51,9 +54,12 @@ module _ (remotes : Grammar Remote) where
       let q : n < 2 ^ 32 = omega (arith, p) in
       let d = finish_object (length e.objects) (tree.hash ps (Some y.0)) f.0 in
       let b = counts_then (total_pairs (map (pair_nodes remotes) ps)) (nodes y.0) w (writing y.0) (begin_object e) g.0 f.0 g.2 f.2 in
-      rw z (d, (λ rest. ap (read (value remotes (suc room)) c) (append_assoc (125 ∷ long_from n) ((w then writing y.0) c.symbols).0 rest ∙ ap (λ (ys : List ℕ). 125 ∷ (long_from n ++ ys)) (bytes_then w (writing y.0) c.symbols g.0.symbols rest g.2.symbols))
-          ∙ rw (count_gives n (past 1 c) q ((w c.symbols).0 ++ ((writing y.0 g.0.symbols).0 ++ rest)), not_more n max_pairs p, nodes_give c.at 1 (after_long n (past 1 c)) ((w c.symbols).0 ++ ((writing y.0 g.0.symbols).0 ++ rest)) (omega (arith, m)), g.1 ((writing y.0 g.0.symbols).0 ++ rest), f.1 rest) refl),
-        record { symbols = b.symbols; few = omega (arith, b.few); nodes = omega (arith, b.nodes) })
+      rw z (
+        d,
+        (λ rest. ap (read (value remotes (suc room)) c) (append_assoc (125 ∷ long_from n) ((w then writing y.0) c.symbols).0 rest ∙ ap (λ (ys : List ℕ). 125 ∷ (long_from n ++ ys)) (bytes_then w (writing y.0) c.symbols g.0.symbols rest g.2.symbols))
+            ∙ rw (count_gives n (past 1 c) q ((w c.symbols).0 ++ ((writing y.0 g.0.symbols).0 ++ rest)), not_more n max_pairs p, nodes_give c.at 1 (after_long n (past 1 c)) ((w c.symbols).0 ++ ((writing y.0 g.0.symbols).0 ++ rest)) (omega (arith, m)), g.1 ((writing y.0 g.0.symbols).0 ++ rest), f.1 rest) refl),
+        record { symbols = b.symbols; few = omega (arith, b.few); nodes = omega (arith, b.nodes) },
+      )
 
   pub hash_written : (qs : List (Such remotes × Such remotes)) → Written remotes (roll-Tree (Tree-F.Hash (map (pair_of remotes) qs) None))
   hash_written qs k zero c h l m = absurd (omega (arith, h, depth_roll (Tree-F.Hash (map (pair_of remotes) qs) None)))

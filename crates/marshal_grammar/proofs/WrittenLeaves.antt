@@ -71,10 +71,13 @@ module _ (remotes : Grammar Remote) (room : ℕ) where
   unfolding value body
   small_puts bs n c l h =
       let e = past (length bs) (past 1 c) in
-      let d = add_nodes 1 e in
-      (d, (λ rest.
-          let k : length (bs ++ rest) - length rest ≡ length bs = omega (arith, length-append bs rest) in
-          rw (long_again bs rest n l, k, nodes_give c.at 1 e rest h) refl), plain (105 ∷ bs) 1 c d refl refl)
+      let d = add_nodes 1 e in (
+        d,
+        (λ rest.
+            let k : length (bs ++ rest) - length rest ≡ length bs = omega (arith, length-append bs rest) in
+            rw (long_again bs rest n l, k, nodes_give c.at 1 e rest h) refl),
+        plain (105 ∷ bs) 1 c d refl refl,
+      )
 
   plus_puts : (u m : ℕ) (c : Context) → little (bytes_of (2 * u) m) ≡ m → u < 2 ^ 32 → m < 2 ^ 127 → c.nodes + 1 ≤ max_nodes
       → Puts remotes (suc room) (these (108 ∷ 43 ∷ (long_from u ++ bytes_of (2 * u) m))) 1 (tree.int (pos m)) c
@@ -83,9 +86,12 @@ module _ (remotes : Grammar Remote) (room : ℕ) where
       let bs = bytes_of (2 * u) m in
       let l = length_bytes_of (2 * u) m in
       let f = past (2 * u) (after_long u (past 1 (past 1 c))) in
-      let d = add_object (tree.int (pos m)) (add_nodes 1 f) in
-      (d, (λ rest. ap (read (value remotes (suc room)) c) (append_assoc (108 ∷ 43 ∷ long_from u) bs rest)
-        ∙ rw (long_gives u (past 1 (past 1 c)) (bs ++ rest) k, long_length u (bs ++ rest), not_less (length (bs ++ rest)) (2 * u) (omega (arith, length-append bs rest, l)), take_seam bs rest (2 * u) l, drop_seam bs rest (2 * u) l, b, less m (2 ^ 127) i, nodes_give c.at 1 f rest h) refl), plain _ 1 c d refl refl)
+      let d = add_object (tree.int (pos m)) (add_nodes 1 f) in (
+        d,
+        (λ rest. ap (read (value remotes (suc room)) c) (append_assoc (108 ∷ 43 ∷ long_from u) bs rest)
+            ∙ rw (long_gives u (past 1 (past 1 c)) (bs ++ rest) k, long_length u (bs ++ rest), not_less (length (bs ++ rest)) (2 * u) (omega (arith, length-append bs rest, l)), take_seam bs rest (2 * u) l, drop_seam bs rest (2 * u) l, b, less m (2 ^ 127) i, nodes_give c.at 1 f rest h) refl),
+        plain _ 1 c d refl refl,
+      )
 
   minus_puts : (u m : ℕ) (c : Context) → little (bytes_of (2 * u) (suc m)) ≡ suc m → u < 2 ^ 32 → m < 2 ^ 127 → c.nodes + 1 ≤ max_nodes
       → Puts remotes (suc room) (these (108 ∷ 45 ∷ (long_from u ++ bytes_of (2 * u) (suc m)))) 1 (tree.int (negsuc m)) c
@@ -94,9 +100,12 @@ module _ (remotes : Grammar Remote) (room : ℕ) where
       let bs = bytes_of (2 * u) (suc m) in
       let l = length_bytes_of (2 * u) (suc m) in
       let f = past (2 * u) (after_long u (past 1 (past 1 c))) in
-      let d = add_object (tree.int (negsuc m)) (add_nodes 1 f) in
-      (d, (λ rest. ap (read (value remotes (suc room)) c) (append_assoc (108 ∷ 45 ∷ long_from u) bs rest)
-        ∙ rw (long_gives u (past 1 (past 1 c)) (bs ++ rest) k, long_length u (bs ++ rest), not_less (length (bs ++ rest)) (2 * u) (omega (arith, length-append bs rest, l)), take_seam bs rest (2 * u) l, drop_seam bs rest (2 * u) l, b, less m (2 ^ 127) i, nodes_give c.at 1 f rest h) refl), plain _ 1 c d refl refl)
+      let d = add_object (tree.int (negsuc m)) (add_nodes 1 f) in (
+        d,
+        (λ rest. ap (read (value remotes (suc room)) c) (append_assoc (108 ∷ 45 ∷ long_from u) bs rest)
+            ∙ rw (long_gives u (past 1 (past 1 c)) (bs ++ rest) k, long_length u (bs ++ rest), not_less (length (bs ++ rest)) (2 * u) (omega (arith, length-append bs rest, l)), take_seam bs rest (2 * u) l, drop_seam bs rest (2 * u) l, b, less m (2 ^ 127) i, nodes_give c.at 1 f rest h) refl),
+        plain _ 1 c d refl refl,
+      )
 
   pos_puts : (m : ℕ) (c : Context) → (b : Bool) → nat_lt m (2 ^ 30) ≡ b → m < 2 ^ 127 → c.nodes + 1 ≤ max_nodes → Puts remotes (suc room) (these (int_bytes (pos m))) 1 (tree.int (pos m)) c
   pos_puts m c true e i h = rw e (small_puts (long_from m) (pos m) c (long_from_is m (omega (arith, less_true m (2 ^ 30) e))) h)
@@ -124,10 +133,12 @@ module _ (remotes : Grammar Remote) (room : ℕ) where
       let e = after_string s (past 1 (past 1 c)) in
       let f = encoding_gives b c.at code e (v c.at) (omega (arith, l, h)) in
       let d = add_object (tree.text s code) (add_nodes (heavy s) f.0) in
-      let x = (encoding_bytes b c.symbols).0 in
-      (d, (λ rest. ap (read (value remotes (suc room)) c) (append_assoc (73 ∷ 34 ∷ string_bytes_of s) x rest)
-        ∙ rw (string_gives s (past 1 (past 1 c)) (omega (arith, h)) (x ++ rest), f.1 rest, nodes_give c.at (heavy s) f.0 rest (omega (arith, f.2.nodes, h))) refl),
-        record { symbols = f.2.symbols; few = omega (arith, f.2.few); nodes = omega (arith, f.2.nodes) })
+      let x = (encoding_bytes b c.symbols).0 in (
+        d,
+        (λ rest. ap (read (value remotes (suc room)) c) (append_assoc (73 ∷ 34 ∷ string_bytes_of s) x rest)
+            ∙ rw (string_gives s (past 1 (past 1 c)) (omega (arith, h)) (x ++ rest), f.1 rest, nodes_give c.at (heavy s) f.0 rest (omega (arith, f.2.nodes, h))) refl),
+        record { symbols = f.2.symbols; few = omega (arith, f.2.few); nodes = omega (arith, f.2.nodes) },
+      )
 
   pub text_puts : (s : List ℕ) (code : Code) (c : Context) → length c.symbols ≤ 2 * c.nodes → c.nodes + heavy s ≤ max_nodes → Puts remotes (suc room) (text_bytes s code) (heavy s) (tree.text s code) c
   text_puts s Binary c l h = plain_text_puts s c h

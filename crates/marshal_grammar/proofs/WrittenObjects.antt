@@ -26,7 +26,7 @@ module _ (remotes : Grammar Remote) where
       Each Kept (field_parts fs) → IsUtf8 s → FieldsKept fs → length fs ≤ max_pairs
       → most_fields (map (field_depth remotes) fs) ≤ room → length c.symbols ≤ 2 * c.nodes → c.nodes + (1 + heavy s + total_fields (map (field_nodes remotes) fs)) ≤ max_nodes
       → (d : Context) × Gives (fields_value form (value remotes room) at) c ((symbol_bytes s then fields_bytes (map (field_writing remotes) fs)) c.symbols).0 (form s fs) d
-        × Counts (1 + heavy s + total_fields (map (field_nodes remotes) fs)) (symbol_bytes s then fields_bytes (map (field_writing remotes) fs)) c d
+      × Counts (1 + heavy s + total_fields (map (field_nodes remotes) fs)) (symbol_bytes s then fields_bytes (map (field_writing remotes) fs)) c d
   fields_value_gives form at s qs room c k u a p h l m =
       let fs = map (field_of remotes) qs in
       let n = length fs in
@@ -37,10 +37,13 @@ module _ (remotes : Grammar Remote) where
       let z : length (map (field_writing remotes) fs) ≡ n = length-map fs (field_writing remotes) in
       let q : n < 2 ^ 32 = omega (arith, p) in
       let d = finish_object (length e.objects) (form s fs) g.0 in
-      rw z (d, (λ rest. ap (read (fields_value form (value remotes room) at) c)
+      rw z (
+        d,
+        (λ rest. ap (read (fields_value form (value remotes room) at) c)
             (bytes_then (symbol_bytes s) (these (long_from n) then w) c.symbols f.0.symbols rest f.2.symbols ∙ ap (λ (ys : List ℕ). (symbol_bytes s c.symbols).0 ++ ys) (append_assoc (long_from n) (w f.0.symbols).0 rest))
-          ∙ rw (f.1 (long_from n ++ ((w f.0.symbols).0 ++ rest)), count_gives n f.0 q ((w f.0.symbols).0 ++ rest), not_more n max_pairs p, nodes_give at 1 (after_long n f.0) ((w f.0.symbols).0 ++ rest) (omega (arith, f.2.nodes, m)), g.1 rest) refl),
-        record { symbols = g.2.symbols ∙ ap (λ t. (w t).1) f.2.symbols; few = omega (arith, g.2.few, f.2.few); nodes = omega (arith, g.2.nodes, f.2.nodes) })
+            ∙ rw (f.1 (long_from n ++ ((w f.0.symbols).0 ++ rest)), count_gives n f.0 q ((w f.0.symbols).0 ++ rest), not_more n max_pairs p, nodes_give at 1 (after_long n f.0) ((w f.0.symbols).0 ++ rest) (omega (arith, f.2.nodes, m)), g.1 rest) refl),
+        record { symbols = g.2.symbols ∙ ap (λ t. (w t).1) f.2.symbols; few = omega (arith, g.2.few, f.2.few); nodes = omega (arith, g.2.nodes, f.2.nodes) },
+      )
 
   pub object_written : (s : List ℕ) (qs : List (List ℕ × Such remotes)) → Written remotes (roll-Tree (Tree-F.Object s (map (field_of remotes) qs)))
   unfolding value body
@@ -70,6 +73,9 @@ module _ (remotes : Grammar Remote) where
       let e = add_nodes 1 f.0 in
       let g = y.1 (kept_parts t k).0 room (begin_object e) (omega (arith, h, depth_roll t)) (omega (arith, l, f.2.few, f.2.nodes)) (omega (arith, f.2.nodes, m, nodes_roll t)) in
       let d = finish_object (length e.objects) (tree.wrapped s y.0) g.0 in
-      by_layer remotes (suc room) t c (d, (λ rest. ap (read (value remotes (suc room)) c) (ap (λ (ys : List ℕ). 85 ∷ ys) (bytes_then (symbol_bytes s) (writing y.0) c.symbols f.0.symbols rest f.2.symbols))
-          ∙ rw (f.1 ((writing y.0 f.0.symbols).0 ++ rest), nodes_give c.at 1 f.0 ((writing y.0 f.0.symbols).0 ++ rest) (omega (arith, f.2.nodes, m, nodes_roll t)), g.1 rest) refl),
-        record { symbols = g.2.symbols ∙ ap (λ v. (writing y.0 v).1) f.2.symbols; few = omega (arith, g.2.few, f.2.few); nodes = omega (arith, g.2.nodes, f.2.nodes) })
+      by_layer remotes (suc room) t c (
+        d,
+        (λ rest. ap (read (value remotes (suc room)) c) (ap (λ (ys : List ℕ). 85 ∷ ys) (bytes_then (symbol_bytes s) (writing y.0) c.symbols f.0.symbols rest f.2.symbols))
+            ∙ rw (f.1 ((writing y.0 f.0.symbols).0 ++ rest), nodes_give c.at 1 f.0 ((writing y.0 f.0.symbols).0 ++ rest) (omega (arith, f.2.nodes, m, nodes_roll t)), g.1 rest) refl),
+        record { symbols = g.2.symbols ∙ ap (λ v. (writing y.0 v).1) f.2.symbols; few = omega (arith, g.2.few, f.2.few); nodes = omega (arith, g.2.nodes, f.2.nodes) },
+      )

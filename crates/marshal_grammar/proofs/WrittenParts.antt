@@ -94,10 +94,12 @@ module _ (remotes : Grammar Remote) where
       let vs = map tree_of ys in
       let f = y.1 k.0 room c (omega arith) l (omega arith) in
       let g = values_put ys room f.0 k.1 (omega arith) (omega (arith, f.2.few, f.2.nodes)) (omega (arith, f.2.nodes)) in
-      let w = each_value (map writing vs) in
-      (g.0, (λ rest. ap (read (values (value remotes room) (suc (length vs))) c) (bytes_then (writing y.0) w c.symbols f.0.symbols rest f.2.symbols)
-        ∙ rw (f.1 ((w f.0.symbols).0 ++ rest), g.1 rest) refl),
-        counts_then (nodes y.0) (total (map nodes vs)) (writing y.0) w c f.0 g.0 f.2 g.2)
+      let w = each_value (map writing vs) in (
+        g.0,
+        (λ rest. ap (read (values (value remotes room) (suc (length vs))) c) (bytes_then (writing y.0) w c.symbols f.0.symbols rest f.2.symbols)
+            ∙ rw (f.1 ((w f.0.symbols).0 ++ rest), g.1 rest) refl),
+        counts_then (nodes y.0) (total (map nodes vs)) (writing y.0) w c f.0 g.0 f.2 g.2,
+      )
 
   abbrev pub pair_of : Such × Such → Tree × Tree
   pair_of q = (q.0.0, q.1.0)
@@ -122,16 +124,18 @@ module _ (remotes : Grammar Remote) where
       let f = q.0.1 k.0 room c (omega arith) l (omega arith) in
       let g = q.1.1 k.1.0 room f.0 (omega arith) (omega (arith, f.2.few, f.2.nodes)) (omega (arith, f.2.nodes)) in
       let i = pairs_put qs (before ++ (p ∷ [])) room g.0 k.1.1 b.1 (omega arith) (omega (arith, f.2.few, f.2.nodes, g.2.few, g.2.nodes)) (omega (arith, f.2.nodes, g.2.nodes)) in
-      let w = each_pair (map pair_writing ps) in
-      (i.0, (λ rest.
-          ap (read (pairs (value remotes room) before (suc (length ps))) c)
+      let w = each_pair (map pair_writing ps) in (
+        i.0,
+        (λ rest.
+            ap (read (pairs (value remotes room) before (suc (length ps))) c)
             (bytes_then (writing p.0) (writing p.1 then w) c.symbols f.0.symbols rest f.2.symbols
-             ∙ ap (λ (ys : List ℕ). (writing p.0 c.symbols).0 ++ ys) (bytes_then (writing p.1) w f.0.symbols g.0.symbols rest g.2.symbols))
-          ∙ pair_step (value remotes room) before (before ++ (p ∷ ps)) (length ps) p.0 p.1 c f.0 g.0 i.0 _ ((writing p.1 f.0.symbols).0 ++ ((w g.0.symbols).0 ++ rest)) ((w g.0.symbols).0 ++ rest) rest b.0
+            ∙ ap (λ (ys : List ℕ). (writing p.0 c.symbols).0 ++ ys) (bytes_then (writing p.1) w f.0.symbols g.0.symbols rest g.2.symbols))
+            ∙ pair_step (value remotes room) before (before ++ (p ∷ ps)) (length ps) p.0 p.1 c f.0 g.0 i.0 _ ((writing p.1 f.0.symbols).0 ++ ((w g.0.symbols).0 ++ rest)) ((w g.0.symbols).0 ++ rest) rest b.0
             (f.1 ((writing p.1 f.0.symbols).0 ++ ((w g.0.symbols).0 ++ rest))) (g.1 ((w g.0.symbols).0 ++ rest))
             (i.1 rest ∙ ap (λ (qs : List (Tree × Tree)). Ok (qs, i.0, rest)) (append_assoc before (p ∷ []) ps))),
         counts_are _ _ (each_pair (map pair_writing (p ∷ ps))) c i.0 (omega arith)
-          (counts_then (nodes p.0) (nodes p.1 + total_pairs (map pair_nodes ps)) (writing p.0) (writing p.1 then w) c f.0 i.0 f.2 (counts_then (nodes p.1) (total_pairs (map pair_nodes ps)) (writing p.1) w f.0 g.0 i.0 g.2 i.2)))
+            (counts_then (nodes p.0) (nodes p.1 + total_pairs (map pair_nodes ps)) (writing p.0) (writing p.1 then w) c f.0 i.0 f.2 (counts_then (nodes p.1) (total_pairs (map pair_nodes ps)) (writing p.1) w f.0 g.0 i.0 g.2 i.2)),
+      )
 
   abbrev pub field_of : List ℕ × Such → List ℕ × Tree
   field_of f = (f.0, f.1.0)
@@ -157,14 +161,16 @@ module _ (remotes : Grammar Remote) where
       let f = name_gives x.0 c v l (omega arith) in
       let g = q.1.1 k.0 room f.0 (omega arith) (omega (arith, f.2.few, f.2.nodes)) (omega (arith, f.2.nodes)) in
       let i = fields_go qs (before ++ (x ∷ [])) room g.0 k.1 (All-tail (λ (f : List ℕ × Tree). IsUtf8 f.0) x fs u) (fresh_after x before fs a.1 (not_is (has_name x.0 fs) b.0)) b.1 (omega arith) (omega (arith, f.2.few, f.2.nodes, g.2.few, g.2.nodes)) (omega (arith, f.2.nodes, g.2.nodes)) in
-      let w = each_field (map field_writing fs) in
-      (i.0, (λ rest.
-          ap (read (fields (value remotes room) before (suc (length fs))) c)
+      let w = each_field (map field_writing fs) in (
+        i.0,
+        (λ rest.
+            ap (read (fields (value remotes room) before (suc (length fs))) c)
             (bytes_then (symbol_bytes x.0) (writing x.1 then w) c.symbols f.0.symbols rest f.2.symbols
-             ∙ ap (λ (ys : List ℕ). (symbol_bytes x.0 c.symbols).0 ++ ys) (bytes_then (writing x.1) w f.0.symbols g.0.symbols rest g.2.symbols))
-          ∙ rw (f.1 ((writing x.1 f.0.symbols).0 ++ ((w g.0.symbols).0 ++ rest)), a.0, g.1 ((w g.0.symbols).0 ++ rest), i.1 rest, append_assoc before (x ∷ []) fs) refl),
+            ∙ ap (λ (ys : List ℕ). (symbol_bytes x.0 c.symbols).0 ++ ys) (bytes_then (writing x.1) w f.0.symbols g.0.symbols rest g.2.symbols))
+            ∙ rw (f.1 ((writing x.1 f.0.symbols).0 ++ ((w g.0.symbols).0 ++ rest)), a.0, g.1 ((w g.0.symbols).0 ++ rest), i.1 rest, append_assoc before (x ∷ []) fs) refl),
         counts_are _ _ (each_field (map field_writing (x ∷ fs))) c i.0 (omega arith)
-          (counts_then (heavy x.0) (nodes x.1 + total_fields (map field_nodes fs)) (symbol_bytes x.0) (writing x.1 then w) c f.0 i.0 f.2 (counts_then (nodes x.1) (total_fields (map field_nodes fs)) (writing x.1) w f.0 g.0 i.0 g.2 i.2)))
+            (counts_then (heavy x.0) (nodes x.1 + total_fields (map field_nodes fs)) (symbol_bytes x.0) (writing x.1 then w) c f.0 i.0 f.2 (counts_then (nodes x.1) (total_fields (map field_nodes fs)) (writing x.1) w f.0 g.0 i.0 g.2 i.2)),
+      )
 
   all_fresh : (fs : List (List ℕ × Tree)) → FreshAfter [] fs
   all_fresh [] = tt

@@ -191,6 +191,9 @@ remote_written r k (suc room) c h l m =
     let e = after_string bs f.0 in
     let j = 1 + (length r.uri.bytes + length (id_bytes r.id)) / 256 in
     let d = add_object (tree.remote r) (add_nodes j e) in
-    by_layer reference (suc room) t c (d, (λ rest. ap (read (value reference (suc room)) c) (ap (λ (ys : List ℕ). 117 ∷ ys) (bytes_then (symbol_bytes remote_class) (these (string_bytes_of bs)) c.symbols f.0.symbols rest f.2.symbols))
-        ∙ rw (f.1 (string_bytes_of bs ++ rest), string_gives bs f.0 (omega (arith, m, n, remote_len r)) rest, held_reads r c.at e rest a.0 a.1 s, nodes_give c.at j e rest (omega (arith, f.2.nodes, m, n))) refl),
-      record { symbols = f.2.symbols; few = omega (arith, f.2.few); nodes = omega (arith, f.2.nodes) })
+    by_layer reference (suc room) t c (
+      d,
+      (λ rest. ap (read (value reference (suc room)) c) (ap (λ (ys : List ℕ). 117 ∷ ys) (bytes_then (symbol_bytes remote_class) (these (string_bytes_of bs)) c.symbols f.0.symbols rest f.2.symbols))
+          ∙ rw (f.1 (string_bytes_of bs ++ rest), string_gives bs f.0 (omega (arith, m, n, remote_len r)) rest, held_reads r c.at e rest a.0 a.1 s, nodes_give c.at j e rest (omega (arith, f.2.nodes, m, n))) refl),
+      record { symbols = f.2.symbols; few = omega (arith, f.2.few); nodes = omega (arith, f.2.nodes) },
+    )

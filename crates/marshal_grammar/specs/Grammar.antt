@@ -41,7 +41,7 @@ abbrev pub InRounds : {A S : Type 0} → (S → ℕ → Spelling (S ⊎ A)) → 
 InRounds Round zero s c bs v d = ⊥
 InRounds {S = S} Round (suc n) s c bs v d = (b : ℕ) × (more : List ℕ) × (bs ≡ b ∷ more)
     × (Round s b (past 1 c) more (inr v) d
-       ⊎ ((t : S) × (these rest : List ℕ) × (e : Context) × (more ≡ these ++ rest) × Round s b (past 1 c) these (inl t) e × InRounds Round n t e rest v d))
+    ⊎ ((t : S) × (these rest : List ℕ) × (e : Context) × (more ≡ these ++ rest) × Round s b (past 1 c) these (inl t) e × InRounds Round n t e rest v d))
 
 -- These bytes spell v from context c, and lead to context d.
 abbrev pub Spells : {A : Type 0} → Grammar A → Spelling A
@@ -79,7 +79,7 @@ MeetsInRounds Round Meet zero s c bs r = ⊥
 MeetsInRounds {S = S} Round Meet (suc n) s c bs r = ((bs ≡ []) × IsShort c bs r)
     ⊎ ((b : ℕ) × (more : List ℕ) × (bs ≡ b ∷ more)
     × (Meet s b (past 1 c) more r
-       ⊎ ((t : S) × (these rest : List ℕ) × (e : Context) × (more ≡ these ++ rest) × Round s b (past 1 c) these (inl t) e × MeetsInRounds Round Meet n t e rest r)))
+    ⊎ ((t : S) × (these rest : List ℕ) × (e : Context) × (more ≡ these ++ rest) × Round s b (past 1 c) these (inl t) e × MeetsInRounds Round Meet n t e rest r)))
 
 -- From a context, these bytes meet this refusal: all before its place is spelled.
 abbrev pub Meets : {A : Type 0} → Grammar A → Refusing

@@ -10,16 +10,14 @@ pub fn one_answer()
     ensures exclusive { NeverBoth }
     ensures dump { OneDump }
     ensures refusal { OneRefusal }
-{
-}
+{}
 
 /// A dump says nothing of what follows it.
 ///
 /// Source: docs/MARSHAL.md, Dumps.
 pub fn any_rest()
     ensures { AnyRest }
-{
-}
+{}
 
 /// Reading from left to right gives exactly the dumps and the refusals of the grammar.
 ///
@@ -27,21 +25,18 @@ pub fn any_rest()
 pub fn reading_agrees()
     ensures dumps { ReadsDumps }
     ensures refusals { ReadsRefusals }
-{
-}
+{}
 
 /// What is written of a value is read as that value again, whatever follows.
 ///
 /// Source: docs/MARSHAL.md, The written spelling.
 pub fn reads_spelled()
     ensures { ReadsSpelled }
-{
-}
+{}
 
 /// The written spelling of a long is the shortest that it has.
 ///
 /// Source: docs/MARSHAL.md, Longs.
 pub fn shortest_longs()
     ensures { ShortestLongs }
-{
-}
+{}
