@@ -13,6 +13,6 @@ pub mod laws;
 pub mod long;
 pub mod refusal;
 
-pub use kind::{kind_of, Kind};
+pub use kind::{Kind, kind_of};
 pub use long::long_at;
 pub use refusal::{Refusal, Why};
