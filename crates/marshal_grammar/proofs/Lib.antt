@@ -21,3 +21,4 @@ pub mod RoundTrip
 pub mod ShortestLongs
 pub mod Answering
 pub mod Rows
+pub mod WrittenRows

@@ -1,5 +1,5 @@
 -- Dumps read and written, byte by byte.
-use Rattle.std.specs.Prelude.{ℕ, ◌≡◌, List, [], ◌∷◌, Ok, refl, pos, negsuc, None}
+use Rattle.std.specs.Prelude.{ℕ, zero, suc, ◌≡◌, List, [], ◌∷◌, Ok, refl, pos, negsuc, None}
 use Rattle.drb_tree.specs.declared.Code.TheVariants.{Utf8}
 use Rattle.drb_tree.specs.declared.Tree.{Tree}
 use Rattle.drb_tree.specs.declared.Tree.TheFolds.{fold-roll-Tree, map-Tree}
@@ -119,3 +119,56 @@ bad_mark = refl
 
 written_zero : writing (int (pos 0)) ≡ these (105 ∷ 0 ∷ [])
 written_zero = fold-roll-Tree Writing writing_step (Tree-F.Int (pos 0))
+
+too_deep : RefusedAs (4 ∷ 8 ∷ 91 ∷ 6 ∷ 91 ∷ 6 ∷ 91 ∷ 6 ∷ 91 ∷ 6 ∷ 91 ∷ 6 ∷ 91 ∷ 6 ∷ 91 ∷ 6 ∷ 91 ∷ 6 ∷ 91 ∷ 6 ∷ 91 ∷ 6 ∷ 91 ∷ 6 ∷ 91 ∷ 6 ∷ 91 ∷ 6 ∷ 91 ∷ 6 ∷ 91 ∷ 6 ∷ 91 ∷ 6 ∷ 91 ∷ 6 ∷ 91 ∷ 6 ∷ 91 ∷ 6 ∷ 91 ∷ 6 ∷ 91 ∷ 6 ∷ 91 ∷ 6 ∷ 91 ∷ 6 ∷ 91 ∷ 6 ∷ 91 ∷ 6 ∷ 91 ∷ 6 ∷ 91 ∷ 6 ∷ 91 ∷ 6 ∷ 91 ∷ 6 ∷ 91 ∷ 6 ∷ 91 ∷ 6 ∷ 91 ∷ 6 ∷ 91 ∷ 6 ∷ 91 ∷ 6 ∷ 91 ∷ 6 ∷ 91 ∷ 6 ∷ 91 ∷ 6 ∷ 91 ∷ 6 ∷ 91 ∷ 6 ∷ 91 ∷ 6 ∷ 91 ∷ 6 ∷ 91 ∷ 6 ∷ 91 ∷ 6 ∷ 91 ∷ 6 ∷ 91 ∷ 6 ∷ 91 ∷ 6 ∷ 91 ∷ 6 ∷ 91 ∷ 6 ∷ 91 ∷ 6 ∷ 91 ∷ 6 ∷ 91 ∷ 6 ∷ 91 ∷ 6 ∷ 91 ∷ 6 ∷ 91 ∷ 6 ∷ 91 ∷ 6 ∷ 91 ∷ 6 ∷ 91 ∷ 6 ∷ 91 ∷ 6 ∷ 91 ∷ 6 ∷ 91 ∷ 6 ∷ 91 ∷ 6 ∷ 91 ∷ 6 ∷ 91 ∷ 6 ∷ 91 ∷ 6 ∷ 91 ∷ 6 ∷ 91 ∷ 6 ∷ 91 ∷ 6 ∷ 91 ∷ 6 ∷ 91 ∷ 6 ∷ 91 ∷ 6 ∷ 91 ∷ 6 ∷ 91 ∷ 6 ∷ 91 ∷ 6 ∷ 91 ∷ 6 ∷ 91 ∷ 6 ∷ 91 ∷ 6 ∷ 91 ∷ 6 ∷ 91 ∷ 6 ∷ 91 ∷ 6 ∷ 91 ∷ 6 ∷ 91 ∷ 6 ∷ 91 ∷ 6 ∷ 91 ∷ 6 ∷ 91 ∷ 6 ∷ 91 ∷ 6 ∷ 91 ∷ 6 ∷ 91 ∷ 6 ∷ 91 ∷ 6 ∷ 91 ∷ 6 ∷ 91 ∷ 6 ∷ 91 ∷ 6 ∷ 91 ∷ 6 ∷ 91 ∷ 6 ∷ 91 ∷ 6 ∷ 91 ∷ 6 ∷ 91 ∷ 6 ∷ 91 ∷ 6 ∷ 91 ∷ 6 ∷ 91 ∷ 6 ∷ 91 ∷ 6 ∷ 91 ∷ 6 ∷ 91 ∷ 6 ∷ 91 ∷ 6 ∷ 91 ∷ 6 ∷ 91 ∷ 6 ∷ 91 ∷ 6 ∷ 91 ∷ 6 ∷ 91 ∷ 6 ∷ 91 ∷ 6 ∷ 91 ∷ 6 ∷ 91 ∷ 6 ∷ 91 ∷ 6 ∷ 91 ∷ 6 ∷ 91 ∷ 6 ∷ 91 ∷ 6 ∷ 91 ∷ 6 ∷ 91 ∷ 6 ∷ 91 ∷ 6 ∷ 91 ∷ 6 ∷ 91 ∷ 6 ∷ 91 ∷ 6 ∷ 91 ∷ 6 ∷ 91 ∷ 6 ∷ 91 ∷ 6 ∷ 91 ∷ 6 ∷ 91 ∷ 6 ∷ 91 ∷ 6 ∷ 91 ∷ 6 ∷ 91 ∷ 0 ∷ []) why.TooDeep 258
+unfolding dump dump_with value body symbol reference
+too_deep = refl
+
+too_deep_link : RefusedAs (4 ∷ 8 ∷ 91 ∷ 6 ∷ 91 ∷ 6 ∷ 91 ∷ 6 ∷ 91 ∷ 6 ∷ 91 ∷ 6 ∷ 91 ∷ 6 ∷ 91 ∷ 6 ∷ 91 ∷ 6 ∷ 91 ∷ 6 ∷ 91 ∷ 6 ∷ 91 ∷ 6 ∷ 91 ∷ 6 ∷ 91 ∷ 6 ∷ 91 ∷ 6 ∷ 91 ∷ 6 ∷ 91 ∷ 6 ∷ 91 ∷ 6 ∷ 91 ∷ 6 ∷ 91 ∷ 6 ∷ 91 ∷ 6 ∷ 91 ∷ 6 ∷ 91 ∷ 6 ∷ 91 ∷ 6 ∷ 91 ∷ 6 ∷ 91 ∷ 6 ∷ 91 ∷ 6 ∷ 91 ∷ 6 ∷ 91 ∷ 6 ∷ 91 ∷ 6 ∷ 91 ∷ 6 ∷ 91 ∷ 6 ∷ 91 ∷ 6 ∷ 91 ∷ 6 ∷ 91 ∷ 6 ∷ 91 ∷ 6 ∷ 91 ∷ 6 ∷ 91 ∷ 6 ∷ 91 ∷ 6 ∷ 91 ∷ 6 ∷ 91 ∷ 6 ∷ 91 ∷ 6 ∷ 91 ∷ 6 ∷ 91 ∷ 6 ∷ 91 ∷ 6 ∷ 91 ∷ 6 ∷ 91 ∷ 6 ∷ 91 ∷ 6 ∷ 91 ∷ 6 ∷ 91 ∷ 6 ∷ 91 ∷ 6 ∷ 91 ∷ 6 ∷ 91 ∷ 6 ∷ 91 ∷ 6 ∷ 91 ∷ 6 ∷ 91 ∷ 6 ∷ 91 ∷ 6 ∷ 91 ∷ 6 ∷ 91 ∷ 6 ∷ 91 ∷ 6 ∷ 91 ∷ 6 ∷ 91 ∷ 6 ∷ 91 ∷ 6 ∷ 91 ∷ 6 ∷ 91 ∷ 6 ∷ 91 ∷ 6 ∷ 91 ∷ 6 ∷ 91 ∷ 6 ∷ 91 ∷ 6 ∷ 91 ∷ 6 ∷ 91 ∷ 6 ∷ 91 ∷ 6 ∷ 91 ∷ 6 ∷ 91 ∷ 6 ∷ 91 ∷ 6 ∷ 91 ∷ 6 ∷ 91 ∷ 6 ∷ 91 ∷ 6 ∷ 91 ∷ 6 ∷ 91 ∷ 6 ∷ 91 ∷ 6 ∷ 91 ∷ 6 ∷ 91 ∷ 6 ∷ 91 ∷ 6 ∷ 91 ∷ 6 ∷ 91 ∷ 6 ∷ 91 ∷ 6 ∷ 91 ∷ 6 ∷ 91 ∷ 6 ∷ 91 ∷ 6 ∷ 91 ∷ 6 ∷ 91 ∷ 6 ∷ 91 ∷ 6 ∷ 91 ∷ 6 ∷ 91 ∷ 6 ∷ 91 ∷ 6 ∷ 91 ∷ 6 ∷ 91 ∷ 6 ∷ 91 ∷ 6 ∷ 91 ∷ 6 ∷ 91 ∷ 6 ∷ 91 ∷ 6 ∷ 91 ∷ 6 ∷ 91 ∷ 6 ∷ 91 ∷ 6 ∷ 91 ∷ 6 ∷ 91 ∷ 6 ∷ 91 ∷ 6 ∷ 91 ∷ 6 ∷ 91 ∷ 6 ∷ 91 ∷ 6 ∷ 91 ∷ 6 ∷ 91 ∷ 6 ∷ 91 ∷ 6 ∷ 91 ∷ 6 ∷ 91 ∷ 6 ∷ 91 ∷ 6 ∷ 91 ∷ 6 ∷ 91 ∷ 6 ∷ 91 ∷ 6 ∷ 91 ∷ 6 ∷ 91 ∷ 6 ∷ 91 ∷ 6 ∷ 91 ∷ 6 ∷ 91 ∷ 6 ∷ 91 ∷ 6 ∷ 91 ∷ 6 ∷ 91 ∷ 6 ∷ 91 ∷ 6 ∷ 64 ∷ 0 ∷ []) why.Cyclic 258
+unfolding dump dump_with value body symbol reference
+too_deep_link = refl
+
+negative_count : RefusedAs (4 ∷ 8 ∷ 91 ∷ 250 ∷ []) why.Length 3
+unfolding dump dump_with value body symbol reference
+negative_count = refl
+
+no_symbol : RefusedAs (4 ∷ 8 ∷ 59 ∷ 0 ∷ []) why.SymbolLink 2
+unfolding dump dump_with value body symbol reference
+no_symbol = refl
+
+two_variables : RefusedAs (4 ∷ 8 ∷ 73 ∷ 34 ∷ 6 ∷ 97 ∷ 7 ∷ []) why.Encoding 2
+unfolding dump dump_with value body symbol reference
+two_variables = refl
+
+other_variable : RefusedAs (4 ∷ 8 ∷ 73 ∷ 34 ∷ 6 ∷ 97 ∷ 6 ∷ 58 ∷ 6 ∷ 69 ∷ 48 ∷ []) why.Encoding 2
+unfolding dump dump_with value body symbol reference
+other_variable = refl
+
+no_sign : RefusedAs (4 ∷ 8 ∷ 108 ∷ 48 ∷ []) (why.BadType 48) 3
+unfolding dump dump_with value body symbol reference
+no_sign = refl
+
+bare_name : RefusedAs (4 ∷ 8 ∷ 58 ∷ 6 ∷ 255 ∷ []) why.Name 2
+unfolding dump dump_with value body symbol reference
+bare_name = refl
+
+class_name : RefusedAs (4 ∷ 8 ∷ 99 ∷ 6 ∷ 255 ∷ []) why.Name 2
+unfolding dump dump_with value body symbol reference
+class_name = refl
+
+many_pairs : RefusedAs (4 ∷ 8 ∷ 123 ∷ 2 ∷ 1 ∷ 16 ∷ []) why.TooManyPairs 3
+unfolding dump dump_with value body symbol reference
+many_pairs = refl
+
+twice_named : RefusedAs (4 ∷ 8 ∷ 111 ∷ 58 ∷ 6 ∷ 65 ∷ 7 ∷ 58 ∷ 6 ∷ 97 ∷ 48 ∷ 59 ∷ 6 ∷ 48 ∷ []) why.DuplicateKey 11
+unfolding dump dump_with value body symbol reference
+twice_named = refl
+
+-- lists in lists, n of them round an empty one
+abbrev nested : ℕ → Tree
+nested zero = list []
+nested (suc n) = list (nested n ∷ [])
+
+deepest : ReadAs (4 ∷ 8 ∷ 91 ∷ 6 ∷ 91 ∷ 6 ∷ 91 ∷ 6 ∷ 91 ∷ 6 ∷ 91 ∷ 6 ∷ 91 ∷ 6 ∷ 91 ∷ 6 ∷ 91 ∷ 6 ∷ 91 ∷ 6 ∷ 91 ∷ 6 ∷ 91 ∷ 6 ∷ 91 ∷ 6 ∷ 91 ∷ 6 ∷ 91 ∷ 6 ∷ 91 ∷ 6 ∷ 91 ∷ 6 ∷ 91 ∷ 6 ∷ 91 ∷ 6 ∷ 91 ∷ 6 ∷ 91 ∷ 6 ∷ 91 ∷ 6 ∷ 91 ∷ 6 ∷ 91 ∷ 6 ∷ 91 ∷ 6 ∷ 91 ∷ 6 ∷ 91 ∷ 6 ∷ 91 ∷ 6 ∷ 91 ∷ 6 ∷ 91 ∷ 6 ∷ 91 ∷ 6 ∷ 91 ∷ 6 ∷ 91 ∷ 6 ∷ 91 ∷ 6 ∷ 91 ∷ 6 ∷ 91 ∷ 6 ∷ 91 ∷ 6 ∷ 91 ∷ 6 ∷ 91 ∷ 6 ∷ 91 ∷ 6 ∷ 91 ∷ 6 ∷ 91 ∷ 6 ∷ 91 ∷ 6 ∷ 91 ∷ 6 ∷ 91 ∷ 6 ∷ 91 ∷ 6 ∷ 91 ∷ 6 ∷ 91 ∷ 6 ∷ 91 ∷ 6 ∷ 91 ∷ 6 ∷ 91 ∷ 6 ∷ 91 ∷ 6 ∷ 91 ∷ 6 ∷ 91 ∷ 6 ∷ 91 ∷ 6 ∷ 91 ∷ 6 ∷ 91 ∷ 6 ∷ 91 ∷ 6 ∷ 91 ∷ 6 ∷ 91 ∷ 6 ∷ 91 ∷ 6 ∷ 91 ∷ 6 ∷ 91 ∷ 6 ∷ 91 ∷ 6 ∷ 91 ∷ 6 ∷ 91 ∷ 6 ∷ 91 ∷ 6 ∷ 91 ∷ 6 ∷ 91 ∷ 6 ∷ 91 ∷ 6 ∷ 91 ∷ 6 ∷ 91 ∷ 6 ∷ 91 ∷ 6 ∷ 91 ∷ 6 ∷ 91 ∷ 6 ∷ 91 ∷ 6 ∷ 91 ∷ 6 ∷ 91 ∷ 6 ∷ 91 ∷ 6 ∷ 91 ∷ 6 ∷ 91 ∷ 6 ∷ 91 ∷ 6 ∷ 91 ∷ 6 ∷ 91 ∷ 6 ∷ 91 ∷ 6 ∷ 91 ∷ 6 ∷ 91 ∷ 6 ∷ 91 ∷ 6 ∷ 91 ∷ 6 ∷ 91 ∷ 6 ∷ 91 ∷ 6 ∷ 91 ∷ 6 ∷ 91 ∷ 6 ∷ 91 ∷ 6 ∷ 91 ∷ 6 ∷ 91 ∷ 6 ∷ 91 ∷ 6 ∷ 91 ∷ 6 ∷ 91 ∷ 6 ∷ 91 ∷ 6 ∷ 91 ∷ 6 ∷ 91 ∷ 6 ∷ 91 ∷ 6 ∷ 91 ∷ 6 ∷ 91 ∷ 6 ∷ 91 ∷ 6 ∷ 91 ∷ 6 ∷ 91 ∷ 6 ∷ 91 ∷ 6 ∷ 91 ∷ 6 ∷ 91 ∷ 6 ∷ 91 ∷ 6 ∷ 91 ∷ 6 ∷ 91 ∷ 6 ∷ 91 ∷ 6 ∷ 91 ∷ 6 ∷ 91 ∷ 6 ∷ 91 ∷ 6 ∷ 91 ∷ 6 ∷ 91 ∷ 6 ∷ 91 ∷ 6 ∷ 91 ∷ 6 ∷ 91 ∷ 6 ∷ 91 ∷ 6 ∷ 91 ∷ 6 ∷ 91 ∷ 6 ∷ 91 ∷ 6 ∷ 91 ∷ 6 ∷ 91 ∷ 0 ∷ []) (nested 127)
+unfolding dump dump_with value body symbol reference
+deepest = (_, refl)
