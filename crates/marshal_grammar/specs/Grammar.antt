@@ -100,6 +100,7 @@ infixl 10 ◌>>=◌
 abbrev pub ◌>>=◌ : {A B : Type 0} → Grammar B → (B → Grammar A) → Grammar A
 p >>= q = follows p q
 
+-- one piece after another that does not depend on it
 infixl 10 ◌>>◌
 abbrev pub ◌>>◌ : {A B : Type 0} → Grammar B → Grammar A → Grammar A
 p >> q = follows p (λ x. q)
