@@ -1,13 +1,11 @@
 -- The laws of dumps.
-use Rattle.std.proofs.Common.{◌≡◌, ℕ, ◌⊎◌, ◌↔◌, inl, inr, List, ◌++◌, Result, Ok, Err, refl, ap, sym, ◌∙◌, subst}
+use Rattle.std.proofs.Common.{◌≡◌, ℕ, ◌⊎◌, inl, inr, List, ◌++◌, Ok, Err, refl, ap, sym, ◌∙◌}
 use Rattle.std.proofs.lemmas.List.{append_cancel_right}
 use Rattle.drb_tree.specs.declared.Tree.{Tree}
-use Rattle.marshal_grammar.specs.declared.refusal.Why.{Why}
 use Rattle.marshal_grammar.specs.declared.refusal.Refusal.{Refusal}
 use Rattle.marshal_grammar.specs.Contexts.{Context, opening}
-use Rattle.marshal_grammar.specs.Grammar.{Spells, Meets}
 use Rattle.marshal_grammar.specs.Reading.{Read, read}
-use Rattle.marshal_grammar.specs.Dumps.{dump, Dump, Refuses, dump_of}
+use Rattle.marshal_grammar.specs.Dumps.{dump, dump_of}
 use Rattle.marshal_grammar.specs.Laws.{HasDump, HasRefusal, SomeAnswer, NeverBoth, OneDump, OneRefusal, AnyRest, ReadsDumps, ReadsRefusals}
 use Rattle.marshal_grammar.proofs.Results.{ok_is, err_is}
 use Rattle.marshal_grammar.proofs.Complete.{complete}

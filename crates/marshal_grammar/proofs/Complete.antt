@@ -1,10 +1,8 @@
 -- What is spelled is read, whatever follows it.
-use Rattle.std.proofs.Common.{◌≡◌, ℕ, zero, suc, ◌+◌, ◌-◌, ◌<◌, ◌≤◌, ◌⊎◌, inl, inr, ℤ, List, [], ◌∷◌, ◌++◌, length, take, drop, Option, Some, None, Result, Ok, Err, Bool, true, false, refl, ap, sym, ◌∙◌, arith, cond, nat_lt, length-append, append_assoc}
-use Rattle.std.proofs.lemmas.Grind.{common_steps}
-use Rattle.marshal_grammar.specs.Longs.{Long, long_of}
+use Rattle.std.proofs.Common.{◌≡◌, ℕ, zero, suc, ◌+◌, ◌-◌, ◌<◌, ◌⊎◌, inl, inr, List, ◌++◌, length, Ok, refl, ap, arith, length-append, append_assoc}
 use Rattle.marshal_grammar.specs.Contexts.{Context, opening, past}
-use Rattle.marshal_grammar.specs.Grammar.{Grammar, gives, refuses, must, byte, bytes, long, context, becomes, within, follows, rounds, Spelling, Front, InRounds, Spells}
-use Rattle.marshal_grammar.specs.Reading.{Read, next, read, in_rounds}
+use Rattle.marshal_grammar.specs.Grammar.{Grammar, gives, refuses, must, byte, bytes, long, context, becomes, within, follows, rounds, Spelling, InRounds, Spells}
+use Rattle.marshal_grammar.specs.Reading.{Read, read, in_rounds}
 use Rattle.marshal_grammar.proofs.LongLists.{long_again, not_less, take_seam, drop_seam}
 
 -- what is spelled, is read
@@ -30,7 +28,7 @@ complete (must b w at) c d bs rest v s = rw (s.0, s.1, s.2) refl
 complete byte c d bs rest v s = rw (s.0, s.1) refl
 complete (bytes n) c d bs rest v s =
     rw (s.0, s.2, not_less (length (v ++ rest)) n (omega (arith, length-append v rest, s.1)), take_seam v rest n s.1, drop_seam v rest n s.1) refl
-complete long c d bs rest v s = 
+complete long c d bs rest v s =
     let l : length (bs ++ rest) - length rest ≡ length bs = omega (arith, length-append bs rest) in
     rw (s.1, long_again bs rest v s.0, l) refl
 complete context c d bs rest v s = rw (s.0, s.1, s.2) refl

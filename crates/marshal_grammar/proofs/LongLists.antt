@@ -1,8 +1,8 @@
 -- Longs at the front of a list.
-use Rattle.std.proofs.Common.{◌≡◌, ℕ, ◌+◌, ◌<◌, ◌≤◌, ℤ, suc, zero, List, [], ◌∷◌, ◌++◌, length, take, drop, Option, Some, None, Bool, true, false, refl, ap, sym, ◌∙◌, arith, subst, cond, nat_lt, length-append, length-take}
+use Rattle.std.proofs.Common.{◌≡◌, ℕ, ◌+◌, ◌<◌, ◌≤◌, ℤ, suc, zero, List, [], ◌∷◌, ◌++◌, length, take, drop, Option, Some, None, Bool, true, false, refl, ap, sym, ◌∙◌, arith, cond, nat_lt, length-append, length-take, length-drop}
 use Rattle.std.proofs.lemmas.List.{take-append-drop}
 use Rattle.std.proofs.lemmas.Grind.{common_steps}
-use Rattle.marshal_grammar.specs.Longs.{Long, NoLong, long_of, long_value, more_after}
+use Rattle.marshal_grammar.specs.Longs.{Long, NoLong, LongAt, long_of, long_value, more_after}
 
 pub drop_more : (i n : ℕ) (s : List ℕ) (c : ℕ) (more : List ℕ) → drop i s ≡ c ∷ more → drop (i + 1 + n) s ≡ drop n more
 drop_more zero n [] c more e = absurd (cc)
@@ -59,3 +59,9 @@ no_long bs e n b rest l s = let k = long_again b rest n l in let j = ap long_of 
 pub no_long_is : (bs : List ℕ) (o : Option (ℤ × List ℕ)) → long_of bs ≡ o → NoLong bs → o ≡ None
 no_long_is bs None e h = refl
 no_long_is bs (Some r) e h = let f = long_front bs r.1 r.0 e in absurd (h r.0 f.0 r.1 f.1 f.2)
+
+-- what is read between two places is a long there
+pub long_at_is : (bs : List ℕ) (at end : ℕ) (n : ℤ) → long_of (drop at bs) ≡ Some (n, drop end bs) → at < end → end ≤ length bs → LongAt bs at n end
+long_at_is bs at end n e h k =
+    let f = long_front (drop at bs) (drop end bs) n e in
+    (f.0, f.1, f.2, omega (arith, ap length f.2, length-append f.0 (drop end bs), length-drop at bs, length-drop end bs))

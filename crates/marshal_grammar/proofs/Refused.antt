@@ -1,15 +1,15 @@
 -- A refusal that is read is one of the grammar, and a refusal of the grammar is read.
-use Rattle.std.proofs.Common.{◌≡◌, ℕ, zero, suc, ◌+◌, ◌-◌, ◌<◌, ◌≤◌, ◌⊎◌, inl, inr, ℤ, List, [], ◌∷◌, ◌++◌, length, take, drop, Option, Some, None, Result, Ok, Err, Bool, true, false, refl, ap, sym, ◌∙◌, arith, cond, nat_lt, length-append, append_assoc, subst}
+use Rattle.std.proofs.Common.{◌≡◌, ℕ, zero, suc, ◌+◌, ◌<◌, ◌⊎◌, inl, inr, ℤ, List, [], ◌∷◌, ◌++◌, length, Option, Some, None, Ok, Err, refl, ap, sym, ◌∙◌, arith, nat_lt, length-append}
 use Rattle.marshal_grammar.specs.declared.refusal.Why.{Why}
 use Rattle.marshal_grammar.specs.declared.refusal.Refusal.{Refusal}
-use Rattle.marshal_grammar.specs.Longs.{Long, NoLong, long_of}
+use Rattle.marshal_grammar.specs.Longs.{NoLong, long_of}
 use Rattle.marshal_grammar.specs.Contexts.{Context, opening, past}
-use Rattle.marshal_grammar.specs.Grammar.{Grammar, gives, refuses, must, byte, bytes, long, context, becomes, within, follows, rounds, Spelling, Refusing, Front, NoFront, After, Is, IsShort, InRounds, MeetsInRounds, Spells, Meets}
-use Rattle.marshal_grammar.specs.Reading.{Read, next, short, long_or, inside, refuse, read, go_on, in_rounds}
+use Rattle.marshal_grammar.specs.Grammar.{Grammar, gives, refuses, must, byte, bytes, long, context, becomes, within, follows, rounds, Spelling, Refusing, NoFront, Is, IsShort, MeetsInRounds, Spells, Meets}
+use Rattle.marshal_grammar.specs.Reading.{Read, long_or, inside, refuse, read, go_on, in_rounds}
 use Rattle.marshal_grammar.proofs.LongLists.{less_true, less, no_long, no_long_is}
-use Rattle.marshal_grammar.proofs.Results.{ok_is, err_is, next_err, choice_err, guard_err}
+use Rattle.marshal_grammar.proofs.Results.{err_is, next_err, choice_err, guard_err}
 use Rattle.marshal_grammar.proofs.Complete.{IsRead, complete}
-use Rattle.marshal_grammar.proofs.Sound.{IsSpelled, Spelt, sound}
+use Rattle.marshal_grammar.proofs.Sound.{IsSpelled, sound}
 
 -- a refusal that is read, is met
 abbrev pub IsMet : {A : Type 0} → Refusing → (Context → List ℕ → Read A) → Type 0

@@ -1,5 +1,5 @@
 -- Results of readings, taken apart.
-use Rattle.std.proofs.Common.{◌≡◌, ℕ, ◌⊎◌, inl, inr, List, Option, Some, None, ℤ, Result, Ok, Err, Bool, true, false, refl, ap, sym, ◌∙◌, cond}
+use Rattle.std.proofs.Common.{◌≡◌, ℕ, ◌⊎◌, inl, inr, List, Result, Ok, Err, Bool, true, false, refl, ap, cond}
 use Rattle.marshal_grammar.specs.declared.refusal.Refusal.{Refusal}
 use Rattle.marshal_grammar.specs.Contexts.{Context}
 use Rattle.marshal_grammar.specs.Reading.{Read, next}

@@ -1,13 +1,11 @@
 -- What is read is spelled.
-use Rattle.std.proofs.Common.{◌≡◌, ℕ, zero, suc, ◌+◌, ◌-◌, ◌<◌, ◌≤◌, ◌⊎◌, inl, inr, ℤ, List, [], ◌∷◌, ◌++◌, length, take, drop, Option, Some, None, Result, Ok, Err, Bool, true, false, refl, ap, sym, ◌∙◌, arith, cond, nat_lt, length-append, append_assoc, subst, length-take}
+use Rattle.std.proofs.Common.{◌≡◌, ℕ, zero, suc, ◌+◌, ◌-◌, ◌⊎◌, inl, inr, ℤ, List, [], ◌∷◌, ◌++◌, length, take, drop, Option, Some, None, Ok, Err, refl, ap, sym, ◌∙◌, arith, nat_lt, length-append, append_assoc, subst, length-take}
 use Rattle.std.proofs.lemmas.List.{take-append-drop}
-use Rattle.std.proofs.lemmas.Grind.{common_steps}
 use Rattle.marshal_grammar.specs.declared.refusal.Why.{Why}
-use Rattle.marshal_grammar.specs.declared.refusal.Refusal.{Refusal}
-use Rattle.marshal_grammar.specs.Longs.{Long, long_of}
+use Rattle.marshal_grammar.specs.Longs.{long_of}
 use Rattle.marshal_grammar.specs.Contexts.{Context, opening, past}
-use Rattle.marshal_grammar.specs.Grammar.{Grammar, gives, refuses, must, byte, bytes, long, context, becomes, within, follows, rounds, Spelling, Front, InRounds, Spells}
-use Rattle.marshal_grammar.specs.Reading.{Read, next, short, long_or, inside, read, go_on, in_rounds}
+use Rattle.marshal_grammar.specs.Grammar.{Grammar, gives, refuses, must, byte, bytes, long, context, becomes, within, follows, rounds, Spelling, InRounds, Spells}
+use Rattle.marshal_grammar.specs.Reading.{Read, long_or, inside, read, go_on, in_rounds}
 use Rattle.marshal_grammar.proofs.LongLists.{long_front, less_false}
 use Rattle.marshal_grammar.proofs.Results.{ok_is, next_ok, choice_ok, guard_ok}
 

@@ -26,6 +26,7 @@ dump_with reference = do
   version
   value reference max_depth
 
+-- the remote object that was found; without one the bytes are no reference
 abbrev pub some_remote : Option Remote → Grammar Remote
 some_remote None = refuses why.BadReference 0
 some_remote (Some r) = gives r

@@ -7,7 +7,10 @@ use Rattle.marshal_grammar.specs.declared.refusal.Refusal.{Refusal}
 use Rattle.marshal_grammar.specs.Longs.{Long, NoLong}
 use Rattle.marshal_grammar.specs.Contexts.{Context, opening, past}
 
--- A piece of the grammar whose bytes spell an A.
+-- A piece of the grammar, whose bytes spell an A. The pieces are: no bytes, for something that is known; no bytes at all, a refusal
+-- for a reason at a place; no bytes, where a test holds, else such a refusal; one byte; so many bytes; a long; no bytes, for the
+-- context that is reached; no bytes, and a change of the context's tables or count; no bytes, where other bytes begin with another
+-- piece, else a refusal; one piece after another, which may depend on it; and rounds, each beginning with a byte, up to the last.
 pub data Grammar : Type 0 → Type 1 where
   gives : {A : Type 0} → A → Grammar A
   refuses : {A : Type 0} → Why → ℕ → Grammar A
@@ -33,13 +36,14 @@ Refusing = Context → List ℕ → Refusal → Type 0
 abbrev pub Front : {A : Type 0} → Spelling A → Context → List ℕ → A → Type 0
 Front S c bs v = (b rest : List ℕ) × (d : Context) × S c b v d × (bs ≡ b ++ rest)
 
--- in n rounds, each of which begins with a byte
+-- the bytes spell v in n rounds: each begins with a byte, and all but the last lead to another round
 abbrev pub InRounds : {A S : Type 0} → (S → ℕ → Spelling (S ⊎ A)) → ℕ → S → Spelling A
 InRounds Round zero s c bs v d = ⊥
 InRounds {S = S} Round (suc n) s c bs v d = (b : ℕ) × (more : List ℕ) × (bs ≡ b ∷ more)
     × (Round s b (past 1 c) more (inr v) d
-       ⊎ ((t : S) × (these rest : List ℕ) × (e : Context) × (more ≡ these ++ rest) × Round s b (past 1 c) these (inl t) e × InRounds Round n t e rest v d))
+    ⊎ ((t : S) × (these rest : List ℕ) × (e : Context) × (more ≡ these ++ rest) × Round s b (past 1 c) these (inl t) e × InRounds Round n t e rest v d))
 
+-- These bytes spell v from context c, and lead to context d.
 abbrev pub Spells : {A : Type 0} → Grammar A → Spelling A
 Spells (gives a) c bs v d = (bs ≡ []) × (v ≡ a) × (d ≡ c)
 Spells (refuses w at) c bs v d = ⊥
@@ -69,13 +73,13 @@ After {A = A} S Next c bs r = (x : A) × (these rest : List ℕ) × (e : Context
 abbrev pub NoFront : {A : Type 0} → Spelling A → Context → List ℕ → Type 0
 NoFront {A = A} S c bs = (v : A) → Front S c bs v → ⊥
 
--- in the nth round, those before it being spelled
+-- the refusal is met in one of n rounds, and those before it are spelled; a round's first byte may be missing
 abbrev pub MeetsInRounds : {A S : Type 0} → (S → ℕ → Spelling (S ⊎ A)) → (S → ℕ → Refusing) → ℕ → S → Refusing
 MeetsInRounds Round Meet zero s c bs r = ⊥
 MeetsInRounds {S = S} Round Meet (suc n) s c bs r = ((bs ≡ []) × IsShort c bs r)
     ⊎ ((b : ℕ) × (more : List ℕ) × (bs ≡ b ∷ more)
     × (Meet s b (past 1 c) more r
-       ⊎ ((t : S) × (these rest : List ℕ) × (e : Context) × (more ≡ these ++ rest) × Round s b (past 1 c) these (inl t) e × MeetsInRounds Round Meet n t e rest r)))
+    ⊎ ((t : S) × (these rest : List ℕ) × (e : Context) × (more ≡ these ++ rest) × Round s b (past 1 c) these (inl t) e × MeetsInRounds Round Meet n t e rest r)))
 
 -- From a context, these bytes meet this refusal: all before its place is spelled.
 abbrev pub Meets : {A : Type 0} → Grammar A → Refusing
@@ -96,6 +100,7 @@ infixl 10 ◌>>=◌
 abbrev pub ◌>>=◌ : {A B : Type 0} → Grammar B → (B → Grammar A) → Grammar A
 p >>= q = follows p q
 
+-- one piece after another that does not depend on it
 infixl 10 ◌>>◌
 abbrev pub ◌>>◌ : {A B : Type 0} → Grammar B → Grammar A → Grammar A
 p >> q = follows p (λ x. q)

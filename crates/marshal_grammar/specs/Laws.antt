@@ -1,10 +1,13 @@
 -- The laws of dumps, each in other words than the definitions that it is about.
-use Rattle.std.specs.Prelude.{ℕ, ◌≡◌, ◌⊎◌, ◌↔◌, List, ◌++◌, Ok, Err, length}
+use Rattle.std.specs.Prelude.{ℕ, ℤ, ◌≤◌, ◌≡◌, ◌⊎◌, ◌↔◌, List, ◌++◌, Ok, Err, length}
 use Rattle.drb_tree.specs.declared.Tree.{Tree}
 use Rattle.marshal_grammar.specs.declared.refusal.Why.{Why}
 use Rattle.marshal_grammar.specs.declared.refusal.Refusal.{Refusal}
 use Rattle.marshal_grammar.specs.Contexts.{Context, opening}
-use Rattle.marshal_grammar.specs.Grammar.{Spells, Meets}
+use Rattle.marshal_grammar.specs.Grammar.{Spells}
+use Rattle.drb_tree.specs.Kept.{WellKept, Ranged, Fits, AreBytes}
+use Rattle.marshal_grammar.specs.Spelled.{spelled, long_bytes}
+use Rattle.marshal_grammar.specs.Longs.{Long}
 use Rattle.marshal_grammar.specs.Dumps.{dump, Dump, Refuses, dump_of}
 
 -- some front of the bytes is a dump
@@ -42,3 +45,13 @@ ReadsDumps = (bs rest : List ℕ) (v : Tree) (d : Context) → (dump_of bs ≡ O
 -- reading refuses exactly where the grammar does
 abbrev pub ReadsRefusals : Type 0
 ReadsRefusals = (bs : List ℕ) (r : Refusal) → (dump_of bs ≡ Err r) ↔ Refuses bs r.why r.at
+
+-- The written spelling of a value that fits and is well kept is a dump of it; and of bytes that begin with that spelling,
+-- whatever follows it, exactly this front is a dump, and of no other value.
+abbrev pub ReadsSpelled : Type 0
+ReadsSpelled = (v : Tree) → WellKept v → Ranged v → Fits v
+    → Dump (spelled v) v × ((b rest tail : List ℕ) (w : Tree) → Dump b w → spelled v ++ rest ≡ b ++ tail → (b ≡ spelled v) × (w ≡ v))
+
+-- Of each number that has a spelling as a long, the written bytes are one, and no spelling has fewer.
+abbrev pub ShortestLongs : Type 0
+ShortestLongs = (b : List ℕ) (n : ℤ) → AreBytes b → Long b n → Long (long_bytes n) n × (length (long_bytes n) ≤ length b)

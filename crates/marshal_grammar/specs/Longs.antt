@@ -31,6 +31,10 @@ Long (c ∷ bs) n = (length bs ≡ more_after c) × (n ≡ long_value c bs)
 abbrev pub NoLong : List ℕ → Type 0
 NoLong bs = (n : ℤ) (b rest : List ℕ) → Long b n → bs ≡ b ++ rest → ⊥
 
+-- from the place at to the place end, the bytes are a spelling of the number
+abbrev pub LongAt : List ℕ → ℕ → ℤ → ℕ → Type 0
+LongAt bs at n end = (b : List ℕ) × Long b n × (drop at bs ≡ b ++ drop end bs) × (end ≡ at + length b)
+
 -- the long at the front and the bytes after it; None: bytes of it are missing
 abbrev pub long_of : List ℕ → Option (ℤ × List ℕ)
 long_of [] = None

@@ -12,6 +12,7 @@ use Rattle.marshal_grammar.specs.Grammar.{Grammar, gives, refuses, must, byte, b
 abbrev pub Read : Type 0 → Type 0
 Read A = Result (A × Context × List ℕ) Refusal
 
+-- a refusal for this reason at this place
 abbrev pub refuse : {A : Type 0} → Why → ℕ → Read A
 refuse w at = Err (record { why = w; at = at })
 
@@ -45,6 +46,7 @@ in_rounds round zero s c bs = short c bs
 in_rounds round (suc n) s c [] = short c []
 in_rounds round (suc n) s c (b ∷ bs) = next (round s b (past 1 c) bs) (go_on (in_rounds round n))
 
+-- what these bytes are read as from context c
 abbrev pub read : {A : Type 0} → Grammar A → Context → List ℕ → Read A
 read (gives a) c bs = Ok (a, c, bs)
 read (refuses w at) c bs = refuse w at

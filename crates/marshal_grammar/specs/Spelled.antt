@@ -1,8 +1,7 @@
 -- The one written spelling of a value: docs/MARSHAL.md, The written spelling.
-use Rattle.std.specs.Prelude.{ℕ, zero, suc, ◌+◌, ◌-◌, ◌*◌, ◌/◌, ◌%◌, ◌^◌, List, [], ◌∷◌, ◌++◌, length, Bool, true, false, ◌&&◌, ℤ, pos, negsuc, Option, Some, None, bytes_eq, nat_lt, ◌==◌, if◌then◌else◌, position}
+use Rattle.std.specs.Prelude.{ℕ, zero, suc, ◌+◌, ◌-◌, ◌*◌, ◌/◌, ◌%◌, ◌^◌, List, [], ◌∷◌, ◌++◌, length, ℤ, pos, negsuc, Option, Some, None, bytes_eq, nat_lt, ◌==◌, if◌then◌else◌, position}
 use Rattle.drb_tree.specs.declared.Code.{Code}
 use Rattle.drb_tree.specs.declared.Code.TheVariants.{Binary, Ascii, Utf8}
-use Rattle.drb_tree.specs.declared.Text.{Text}
 use Rattle.drb_tree.specs.declared.RefId.{RefId}
 use Rattle.drb_tree.specs.declared.RefId.TheVariants as R
 use Rattle.drb_tree.specs.declared.Remote.{Remote}
@@ -38,6 +37,7 @@ long_below m =
     if nat_lt m 123 then (250 - m) ∷ []
     else (256 - fewest m) ∷ bytes_of (fewest m) (256 ^ fewest m - 1 - m)
 
+-- the shortest long of any number
 abbrev pub long_bytes : ℤ → List ℕ
 long_bytes (pos n) = long_from n
 long_bytes (negsuc m) = long_below m
@@ -68,6 +68,7 @@ abbrev pub linked_or : Writing → Option ℕ → Writing
 linked_or w None = w
 linked_or w (Some k) = these (59 ∷ long_from k)
 
+-- a symbol: a link where it was written before, else what w writes
 abbrev pub known_or : List ℕ → Writing → Writing
 known_or s w symbols = linked_or w (position (λ t. bytes_eq t s) symbols) symbols
 
@@ -117,15 +118,17 @@ id_bytes_of (R.Text t) = text_bytes t.bytes t.code
 abbrev pub remote_bytes : Remote → List ℕ
 remote_bytes r = ((these (4 ∷ 8 ∷ 91 ∷ 7 ∷ []) then text_bytes r.uri.bytes r.uri.code then id_bytes_of r.id) []).0
 
--- one after the other: values, keys and values, names and values
+-- values, one after the other
 abbrev pub each_value : List Writing → Writing
 each_value [] = these []
 each_value (w ∷ ws) = w then each_value ws
 
+-- keys and values, one after the other
 abbrev pub each_pair : List (Writing × Writing) → Writing
 each_pair [] = these []
 each_pair (p ∷ ps) = p.0 then p.1 then each_pair ps
 
+-- names and values, one after the other
 abbrev pub each_field : List (List ℕ × Writing) → Writing
 each_field [] = these []
 each_field (f ∷ fs) = symbol_bytes f.0 then f.1 then each_field fs

@@ -19,6 +19,7 @@ abbrev pub symbol_at : Context → ℤ → Option (List ℕ)
 symbol_at c (pos n) = slice_get c.symbols n
 symbol_at c (negsuc n) = None
 
+-- the symbol that was found; without one the link at this place has none
 abbrev pub some_symbol : ℕ → Option (List ℕ) → Grammar (List ℕ)
 some_symbol at None = refuses why.SymbolLink at
 some_symbol at (Some s) = gives s
@@ -56,6 +57,7 @@ code_of b =
     else if b == 70 then Some Ascii
     else None
 
+-- the encoding that was found; any other byte is refused
 abbrev pub some_code : ℕ → Option Code → Grammar Code
 some_code at None = refuses why.Encoding at
 some_code at (Some code) = gives code
@@ -108,6 +110,7 @@ symbol_by at ws b (Some kind.SymbolLink) = do
 symbol_by at ws b (Some kind.Marked) = marked_round at ws
 symbol_by at ws b _ = refuses (why.BadType b) at
 
+-- the symbol that begins with the byte b, which was just read
 abbrev pub symbol_round : Waiting → ℕ → Grammar (Waiting ⊎ List ℕ)
 symbol_round ws b = do
   at ← just_read
@@ -125,6 +128,7 @@ name = do
   count_nodes at (heavy s)
   gives s
 
+-- no variable, or the symbol `E` and its value
 abbrev pub encoding_by : ℕ → ℕ → Grammar Code
 encoding_by at zero = gives Binary
 encoding_by at (suc n) = do

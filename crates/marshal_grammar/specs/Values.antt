@@ -224,6 +224,7 @@ abbrev pub object_at : Context → ℤ → Option (Option Tree)
 object_at c (pos n) = slice_get c.objects n
 object_at c (negsuc n) = None
 
+-- the object that was found: there must be one, and it must be finished
 abbrev pub finished : ℕ → Option (Option Tree) → Grammar Tree
 finished at None = refuses why.ObjectLink at
 finished at (Some None) = refuses why.Cyclic at
@@ -246,6 +247,7 @@ marked_by reference part at q b (Some kind.Symbol) = symbol_value at (marked_sym
 marked_by reference part at q b (Some kind.Dumped) = marked_dumped reference part at
 marked_by reference part at q b _ = refuses (why.BadType b) q
 
+-- after `I`: the byte that says what has variables
 abbrev pub marked_value : Grammar Remote → Grammar Tree → ℕ → Grammar Tree
 marked_value reference part at = do
   q ← here
@@ -279,6 +281,7 @@ abbrev pub too_deep : Kind → ℕ → Grammar Tree
 too_deep kind.Link at = link 0 at
 too_deep _ at = refuses why.TooDeep at
 
+-- what a type byte asks for; another byte is refused
 abbrev pub typed : (Kind → ℕ → Grammar Tree) → ℕ → ℕ → Option Kind → Grammar Tree
 typed rest at b None = refuses (why.BadType b) at
 typed rest at b (Some k) = rest k at

@@ -1,6 +1,6 @@
 //! The laws of dumps: each function is a theorem, which its contract states.
 
-ghost use Rattle.marshal_grammar.specs.Laws.{SomeAnswer, NeverBoth, OneDump, OneRefusal, AnyRest, ReadsDumps, ReadsRefusals};
+ghost use Rattle.marshal_grammar.specs.Laws.{SomeAnswer, NeverBoth, OneDump, OneRefusal, AnyRest, ReadsDumps, ReadsRefusals, ReadsSpelled, ShortestLongs};
 
 /// Of each list of bytes either exactly one front is a dump, of exactly one value, or exactly one refusal holds.
 ///
@@ -10,16 +10,14 @@ pub fn one_answer()
     ensures exclusive { NeverBoth }
     ensures dump { OneDump }
     ensures refusal { OneRefusal }
-{
-}
+{}
 
 /// A dump says nothing of what follows it.
 ///
 /// Source: docs/MARSHAL.md, Dumps.
 pub fn any_rest()
     ensures { AnyRest }
-{
-}
+{}
 
 /// Reading from left to right gives exactly the dumps and the refusals of the grammar.
 ///
@@ -27,5 +25,18 @@ pub fn any_rest()
 pub fn reading_agrees()
     ensures dumps { ReadsDumps }
     ensures refusals { ReadsRefusals }
-{
-}
+{}
+
+/// What is written of a value is read as that value again, whatever follows.
+///
+/// Source: docs/MARSHAL.md, The written spelling.
+pub fn reads_spelled()
+    ensures { ReadsSpelled }
+{}
+
+/// The written spelling of a long is the shortest that it has.
+///
+/// Source: docs/MARSHAL.md, Longs.
+pub fn shortest_longs()
+    ensures { ShortestLongs }
+{}

@@ -1,9 +1,9 @@
 //! Longs, the numbers that a dump counts with.
 
-use crate::refusal::Why;
-
 ghost use Rattle.std.specs.Prelude.{◌≡◌, ◌+◌, ◌<◌, ◌≤◌, ◌^◌, length, drop, pos, ◌≤ℤ◌, MatchResult, IfOk, Some, None};
-ghost use Rattle.marshal_grammar.specs.Longs.{Long, NoLong, long_of, more_after, long_value, little};
+ghost use Rattle.marshal_grammar.specs.Longs.{LongAt, NoLong, long_of, more_after, long_value, little};
+
+use crate::refusal::Why;
 
 /// The long at `at`, and the place after it.
 ///
@@ -13,6 +13,9 @@ ghost use Rattle.marshal_grammar.specs.Longs.{Long, NoLong, long_of, more_after,
 pub fn long_at(bytes: &[u8], at: usize) -> Result<(i64, usize), Why>
     requires { at ≤ length bytes.now }
     ensures exact { MatchResult result
+        (λ r. LongAt bytes.now at r.0 r.1)
+        (λ why. (why ≡ Why.Short) × NoLong (drop at bytes.now)) }
+    ensures reads { MatchResult result
         (λ r. long_of (drop at bytes.now) ≡ Some (r.0, drop r.1 bytes.now))
         (λ why. (why ≡ Why.Short) × (long_of (drop at bytes.now) ≡ None)) }
     ensures within { IfOk result (λ r. (at < r.1) × (r.1 ≤ length bytes.now)) }
@@ -47,14 +50,12 @@ fn value_of(c: u8, bytes: &[u8]) -> i64
     requires { length bytes.now ≡ more_after c }
     ensures { result ≡ long_value c bytes.now }
 {
-    if c < 5 {
-        little(bytes) as i64
-    } else if c < 128 {
-        c as i64 - 5
-    } else if c < 252 {
-        c as i64 - 251
-    } else {
-        little(bytes) as i64 - power(bytes.len())
+    let low = little(bytes) as i64;
+    match c {
+        0..=4 => low,
+        5..=127 => c as i64 - 5,
+        128..=251 => c as i64 - 251,
+        _ => low - power(bytes.len()),
     }
 }
 
@@ -87,5 +88,53 @@ fn little(bytes: &[u8]) -> u64
         [a, b, c] => *a as u64 + 256 * (*b as u64 + 256 * *c as u64),
         [a, b, c, d] => *a as u64 + 256 * (*b as u64 + 256 * (*c as u64 + 256 * *d as u64)),
         _ => unreachable!(),
+    }
+}
+
+#[cfg(test)]
+mod tests {
+    use super::*;
+
+    /// Bytes, and what they read as from the front: the number and the bytes that it takes, or that one is missing.
+    type Row = (&'static [u8], Result<(i64, usize), Why>);
+
+    #[test]
+    fn every_spelling_of_a_long_is_read(rt: HostRuntime) {
+        let rows: [Row; 24] = [
+            (&[0x00], Ok((0, 1))),
+            (&[0x05], Ok((0, 1))),
+            (&[0x06], Ok((1, 1))),
+            (&[0x7f], Ok((122, 1))),
+            (&[0x80], Ok((-123, 1))),
+            (&[0xfa], Ok((-1, 1))),
+            (&[0xfb], Ok((0, 1))),
+            (&[0x01, 0x05], Ok((5, 2))),
+            (&[0x01, 0x7b], Ok((123, 2))),
+            (&[0x01, 0xff], Ok((255, 2))),
+            (&[0x02, 0x2c, 0x01], Ok((300, 3))),
+            (&[0x03, 0xff, 0xff, 0xff], Ok((16777215, 4))),
+            (&[0x04, 0xff, 0xff, 0xff, 0x3f], Ok((1073741823, 5))),
+            (&[0x04, 0xff, 0xff, 0xff, 0xff], Ok((4294967295, 5))),
+            (&[0xff, 0x84], Ok((-124, 2))),
+            (&[0xff, 0x7f], Ok((-129, 2))),
+            (&[0xff, 0xff], Ok((-1, 2))),
+            (&[0xfe, 0xff, 0xfe], Ok((-257, 3))),
+            (&[0xfd, 0x00, 0x00, 0x00], Ok((-16777216, 4))),
+            (&[0xfc, 0x00, 0x00, 0x00, 0xc0], Ok((-1073741824, 5))),
+            (&[], Err(Why::Short)),
+            (&[0x01], Err(Why::Short)),
+            (&[0x04, 0xff, 0xff, 0xff], Err(Why::Short)),
+            (&[0xfe, 0xff], Err(Why::Short)),
+        ];
+        for (bytes, want) in rows {
+            assert_eq!(rt; long_at(bytes, 0), want);
+        }
+    }
+
+    #[test]
+    fn a_long_is_read_where_it_stands(rt: HostRuntime) {
+        let bytes = [0x04, 0x08, 0x69, 0x02, 0x2c, 0x01, 0x30];
+        assert_eq!(rt; long_at(&bytes, 3), Ok((300, 6)));
+        assert_eq!(rt; long_at(&bytes, 7), Err(Why::Short));
     }
 }
