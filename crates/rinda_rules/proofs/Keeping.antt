@@ -416,3 +416,70 @@ module _ (caller : ℕ) (event : Event) (P : Plain → Type 0) (k : Keeps caller
   outcome_kept s NextAsk choice is chosen h = ask_kept s (least (askings s)) h
   outcome_kept s (Asked id life) choice is chosen h = told_kept s (deadline life s.clock) (found s id) h
   outcome_kept s Tick choice is chosen h = h
+
+-- the request that picks in its own case is the one that the event submits
+matched-found : (s : Plain) (caller id : ℕ) (f : Found) (r : Request) → matched s caller f ≡ Some r → f ≡ TheRequest r
+matched-found s caller id (TheTuple t) r e = cc
+matched-found s caller id (TheNotifier n) r e = cc
+matched-found s caller id (HasEnded kd l) r e = cc
+matched-found s caller id IsRecycled r e = cc
+matched-found s caller id IsUnknown r e = cc
+matched-found s caller id (TheRequest q) r e = by_test (q.caller == caller && (is_reserved q.state && has_match s q)) e
+  where
+    by_test : (b : Bool) → cond {A = Option Request} b (Some q) None ≡ Some r → TheRequest q ≡ TheRequest r
+    by_test true e = grind arith
+    by_test false e = cc
+
+abbrev submit_id : Event → ℕ
+submit_id (Submit i) = i
+submit_id _ = 0
+
+submitted : (i id : ℕ) → Submit i ≡ Submit id → i ≡ id
+submitted i id e = ap submit_id e
+
+chooser-submits : (s : Plain) (caller : ℕ) (event : Event) (r : Request) (id : ℕ) → chooser s caller event ≡ Some r → event ≡ Submit id → request_at s id ≡ Some r
+chooser-submits s caller (Write v lease) r id e is = cc
+chooser-submits s caller (Reserve kd pattern lease) r id e is = cc
+chooser-submits s caller (Submit i) r id e is = found-request s id r (rw (← submitted i id is) (matched-found s caller i (found s i) r e))
+chooser-submits s caller (Collect i) r id e is = cc
+chooser-submits s caller (Settle i ok) r id e is = cc
+chooser-submits s caller (Withdraw i) r id e is = cc
+chooser-submits s caller (Cancel i) r id e is = cc
+chooser-submits s caller (Renew i lease) r id e is = cc
+chooser-submits s caller (Look i) r id e is = cc
+chooser-submits s caller (Value i) r id e is = cc
+chooser-submits s caller (ReadAll pattern) r id e is = cc
+chooser-submits s caller (Notify x pattern lease) r id e is = cc
+chooser-submits s caller (Pop i) r id e is = cc
+chooser-submits s caller NextAsk r id e is = cc
+chooser-submits s caller (Asked i life) r id e is = cc
+chooser-submits s caller Tick r id e is = cc
+
+pub chosen_none : (s : Plain) (event : Event) → Chosen s event None
+chosen_none s event t e = cc
+
+pub chosen_match : (s : Plain) (caller : ℕ) (event : Event) (r : Request) (pick : Pick) → chooser s caller event ≡ Some r → is_match s r pick ≡ true → Chosen s event (tuple_at s pick.tuple)
+chosen_match s caller event r pick chooses match t e =
+    (itself-tuple s pick.tuple t e, λ q is there.
+    let same : q ≡ r = some_same (sym there ∙ chooser-submits s caller event r q.id chooses is) in
+    rw same (subst (λ (o : Option Entry). may_have_row s r o ≡ true) e (back _ _ match)))
+  where
+    some_same : {x y : Request} → Some x ≡ Some y → x ≡ y
+    some_same e = grind arith
+
+module _ (caller : ℕ) (event : Event) (P : Plain → Type 0) (k : Keeps caller event P) where
+  case_kept : (s : Plain) (r : Option Request) (o : Out) (picks : List Pick) (s' : Plain) → chooser s caller event ≡ r → Case s caller event r o picks s' → P s → P s'
+  case_kept s None o picks s' chooses case h =
+      serve_kept caller event P k _ picks s' case.1 (k.ages ((outcome s caller event None).after) (outcome_kept caller event P k s event None refl (chosen_none s event) h))
+  case_kept s (Some r) o [] s' chooses case h = absurd case
+  case_kept s (Some r) o (pick ∷ picks) s' chooses case h =
+      serve_kept caller event P k _ picks s' case.2
+      (k.ages ((outcome s caller event (tuple_at s pick.tuple)).after) (outcome_kept caller event P k s event (tuple_at s pick.tuple) refl (chosen_match s caller event r pick chooses case.0) h))
+
+  -- what is kept as the event finds the space
+  pub found_kept : (s : Plain) (at : ℕ) → P s → P (found_by s at)
+  found_kept s at h = k.ages (advanced s at) (k.advances s at h)
+
+  -- what these keep, each step keeps
+  pub step_kept : (s : Plain) (at : ℕ) (o : Out) (picks : List Pick) (s' : Plain) → Step s caller at event o picks s' → P s → P s'
+  step_kept s at o picks s' step h = case_kept (found_by s at) (chooser (found_by s at) caller event) o picks s' refl step (found_kept s at h)
