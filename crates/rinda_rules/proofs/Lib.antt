@@ -3,5 +3,6 @@ pub mod Finding
 pub mod Keeping
 pub mod Kept
 pub mod Sounding
+pub mod Settling
 pub mod Histories
 pub mod First
