@@ -22,7 +22,7 @@ use Rattle.rinda_rules.specs.declared.plain.Notifier.{Notifier}
 use Rattle.rinda_rules.specs.Rows.{row_of, changed, without, rising, numbered}
 use Rattle.rinda_rules.specs.Space.{Plain, opening, tuple_at, request_at, is_read, is_waiting, fits}
 use Rattle.rinda_rules.specs.Phases.{advanced, aged, aged_tuple, aged_request, aged_notifier, expires, tuple_ended, request_ended, notifier_ended, in_state, request_in, held_by, served_as}
-use Rattle.rinda_rules.specs.Cases.{with_tuple, with_request, with_notifier, new_tuple, new_request, new_notifier, minted, read_by, written, written_over, reserve, notify, let_go, settle_tuple}
+use Rattle.rinda_rules.specs.Cases.{with_tuple, with_request, with_notifier, new_tuple, new_request, new_notifier, minted, read_by, written, written_over, reserve, notify, asked_doubt, let_go, settle_tuple}
 use Rattle.rinda_rules.specs.Settled.{Numbered, grants, is_granted, is_kept, each_kept}
 use Rattle.rinda_rules.proofs.Lists.{all_imp, all_map, all_filter, all_filter_imp, all_at, all_changed, all_changed_other, all_without_row, all_append, row_has_id, row_without, row_changed_here, numbered-map, numbered-filter, numbered-changed, numbered-more, numbered-push}
 use Rattle.rinda_rules.proofs.Kept.{KeepsGrants, kept_by_grants, grants-map, grants-changed, grants-without, grants-append}
@@ -202,6 +202,12 @@ leased_id id f k r = by_test (r.id == id)
     by_test true = k.id r
     by_test false = refl
 
+sound-leases : (id : ℕ) (f : Request → Request) (s : Plain) → LeasesRequest f → Sound s → Sound (with_request id f s)
+sound-leases id f s k h = record {
+  numbered = record { next = h.numbered.next; tuples = h.numbered.tuples; requests = numbered-changed (λ r. r.id) s.next id f s.requests k.id h.numbered.requests; notifiers = h.numbered.notifiers };
+  kept = kept_by_grants s.requests (changed (λ r. r.id) id f s.requests) s.tuples (grants-map (λ r. if r.id == id then f r else r) s.requests (leased_id id f k) (leased_grants id f k)) h.kept;
+}
+
 marked_kept : (rs : List Request) (t : Entry) (o : Option ℕ) (h : ℕ) → o ≡ Some h → is_kept rs t o ≡ true → is_kept rs (record t { marked = true }) o ≡ true
 marked_kept rs t None h is e = cc
 marked_kept rs t (Some h) h' is e = e
@@ -238,10 +244,8 @@ sound_keeps caller event = record {
     numbered = record { next = h.numbered.next; tuples = numbered-changed (λ t. t.id) s.next t.id (λ t. record t { marked = true }) s.tuples (λ _. refl) h.numbered.tuples; requests = h.numbered.requests; notifiers = h.numbered.notifiers };
     kept = all_changed_other (λ t. is_kept s.requests t t.holder) (λ t. is_kept s.requests t t.holder) (λ t. t.id) t.id (λ t. record t { marked = true }) s.tuples t (rises _ _ h.numbered.tuples) here (marked_kept s.requests t t.holder holder is (all_at (λ t. is_kept s.requests t t.holder) (λ t. t.id) t.id s.tuples t here h.kept)) (λ x ne e. e) h.kept;
   };
-  request_leases = λ id f s k h. record {
-    numbered = record { next = h.numbered.next; tuples = h.numbered.tuples; requests = numbered-changed (λ r. r.id) s.next id f s.requests k.id h.numbered.requests; notifiers = h.numbered.notifiers };
-    kept = kept_by_grants s.requests (changed (λ r. r.id) id f s.requests) s.tuples (grants-map (λ r. if r.id == id then f r else r) s.requests (leased_id id f k) (leased_grants id f k)) h.kept;
-  };
+  request_leases = λ r f s there k may h. sound-leases r.id f s k h;
+  request_asks = λ id s h. sound-leases id (λ r. record r { doubt = asked_doubt r.doubt }) s (record { id = λ r. refl; caller = λ r. refl; kind = λ r. refl; pattern = λ r. refl; marked = λ r. refl; state = λ r. refl }) h;
   request_marks = λ r s there is e h. record {
     numbered = record { next = h.numbered.next; tuples = h.numbered.tuples; requests = numbered-changed (λ r. r.id) s.next r.id (λ r. record r { marked = true }) s.requests (λ _. refl) h.numbered.requests; notifiers = h.numbered.notifiers };
     kept = kept_by_grants s.requests _ s.tuples (grants-changed r.id (λ r. record r { marked = true }) s.requests (λ _. refl) (none_granted s.requests r there (none_by _ _ is (λ t. refl)))) h.kept;
