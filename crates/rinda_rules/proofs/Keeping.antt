@@ -34,27 +34,9 @@ use Rattle.rinda_rules.specs.Queue.{queue}
 use Rattle.rinda_rules.specs.Phases.{advanced, aged, tuple_ended, request_ended, notifier_ended, in_state, request_in, held_by, served_as, served_with, is_match, may_have_row, may_serve, may_serve_row, read_waits, served, served_rows, Serve}
 use Rattle.rinda_rules.specs.Cases.{Outcome, answers, with_tuple, with_request, with_notifier, new_tuple, minted, written, written_over, write_tuple, write, reserve, notify, on_own, submit, submit_matched, submit_unmatched, collect_served, collect, last_of, value_at, let_go, settle_tuple, settle, pop_empty, pop_queue, pop_notifier, pop_ended, pop, withdraw_request, withdraw, cancel_tuple, cancel_request, cancel_notifier, cancel, renewed_tuple, renewed_request, renewed_notifier, renew_request, renew_notifier, renew_with, renew, look, value, value_ended, all_of, Asking, askings, least, asked_doubt, asked_for, ask, is_asked, told_tuple, told_request, told_notifier, told, outcome}
 use Rattle.rinda_rules.specs.Steps.{matched, chooser, found_by, Case, Step}
+use Rattle.rinda_rules.specs.Own.{is_of}
 use Rattle.rinda_rules.proofs.Finding.{itself-request, itself-tuple, itself-notifier, found-request, found-tuple, found-notifier}
 use Rattle.rinda_rules.proofs.Lists.{row_has_id, row_changed_here}
-
--- the event is one of those that only a request's own caller makes of it
-abbrev pub is_of : ℕ → Event → Bool
-is_of id (Write value lease) = false
-is_of id (Reserve kind pattern lease) = false
-is_of id (Submit i) = i == id
-is_of id (Collect i) = i == id
-is_of id (Settle i ok) = i == id
-is_of id (Withdraw i) = i == id
-is_of id (Cancel i) = false
-is_of id (Renew i lease) = false
-is_of id (Look i) = false
-is_of id (Value i) = false
-is_of id (ReadAll pattern) = false
-is_of id (Notify event pattern lease) = false
-is_of id (Pop i) = false
-is_of id NextAsk = false
-is_of id (Asked i life) = false
-is_of id Tick = false
 
 -- a tuple is changed in its life and doubt alone
 pub record LeasesTuple (f : Entry → Entry) : Type 0 where

@@ -26,7 +26,8 @@ use Rattle.rinda_rules.specs.Cases.{with_tuple, with_request, with_notifier, new
 use Rattle.rinda_rules.specs.Settled.{Numbered, grants, is_granted, is_kept, each_kept}
 use Rattle.rinda_rules.proofs.Lists.{all_imp, all_map, all_filter, all_filter_imp, all_at, all_changed, all_changed_other, all_without_row, all_append, row_has_id, row_without, row_changed_here, numbered-map, numbered-filter, numbered-changed, numbered-more, numbered-push}
 use Rattle.rinda_rules.proofs.Kept.{KeepsGrants, kept_by_grants, grants-map, grants-changed, grants-without, grants-append}
-use Rattle.rinda_rules.proofs.Keeping.{Keeps, LeasesTuple, LeasesRequest, KeepsNotifier, Serves, waits, submits, Answers, serves, cancels, is_of}
+use Rattle.rinda_rules.proofs.Keeping.{Keeps, LeasesTuple, LeasesRequest, KeepsNotifier, Serves, waits, submits, Answers, serves, cancels}
+use Rattle.rinda_rules.specs.Own.{is_of}
 
 pub record Sound (s : Plain) : Type 0 where
   pub numbered : Numbered s

@@ -10,3 +10,4 @@ pub mod Settled
 pub mod Legal
 pub mod Full
 pub mod Laws
+pub mod Own
