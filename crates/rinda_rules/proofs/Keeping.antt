@@ -175,7 +175,7 @@ module _ (caller : ℕ) (event : Event) (P : Plain → Type 0) (k : Keeps caller
       served_kept r.kind r t s refl (itself-request s pick.request r re) (itself-tuple s pick.tuple t te)
       (subst (λ (o : Option Entry). may_have_row s r o ≡ true) te row) (waits (parked_of r.state (front _ _ (front _ _ may)))) h
 
-  serve_kept : (s : Plain) (picks : List Pick) (s' : Plain) → Serve s picks s' → P s → P s'
+  pub serve_kept : (s : Plain) (picks : List Pick) (s' : Plain) → Serve s picks s' → P s → P s'
   serve_kept s [] s' serve h = subst P (sym serve.1) h
   serve_kept s (pick ∷ picks) s' serve h =
       serve_kept (served s pick) picks s' serve.1 (rows_kept s pick (request_at s pick.request) (tuple_at s pick.tuple) refl refl serve.0 h)
