@@ -27,6 +27,7 @@ use Rattle.rinda_rules.specs.Settled.{Numbered, Settled, grants}
 use Rattle.rinda_rules.specs.Fixed.{after}
 use Rattle.rinda_rules.specs.Legal.{MayCome, plain_from, plain, LegalFrom, Legal}
 use Rattle.rinda_rules.specs.Own.{is_of}
+use Rattle.rinda_rules.specs.Nothing.{is_nothing}
 use Rattle.rinda_rules.proofs.Lists.{all_at, row_has_id}
 use Rattle.rinda_rules.proofs.Finding.{request-found}
 use Rattle.rinda_rules.proofs.Keeping.{Keeps, serve_kept, found_kept, step_kept}
@@ -313,3 +314,40 @@ settle_case caller id tuple ok s o picks s' case h = case.0 ∙ through s caller
 pub settle-Step : (id tuple : ℕ) (ok : Bool) (s : Plain) (t : Turn) (s' : Plain) → Step s t.caller t.at t.event t.out t.picks s' → t.event ≡ Settle id ok → Owns (grants tuple) t.caller id s → t.out ≡ out.Plain
 settle-Step id tuple ok s t s' step is h =
     settle_case t.caller id tuple ok (found_by s t.at) t.out t.picks s' (subst (λ (event : Event). Step s t.caller t.at event t.out t.picks s') is step) (owns_found (grants tuple) t.caller id t.caller (open_granted tuple) s t.at h)
+
+-- The laws.
+
+never_nothing : (a : Bool) → (a && false) ≡ false
+never_nothing a = never a
+
+reached_before : (before : List Turn) (turn : Turn) (later : List Turn) → Legal (before ++ turn ∷ later) → Both (plain before)
+reached_before before turn later legal = reached opening before sound_opening.numbered (record { nobody = refl; not_due = refl; kept = refl }) (LegalFrom-front opening before (turn ∷ later) legal)
+
+last_turn : (before : List Turn) (turn : Turn) (later : List Turn) → Legal (before ++ turn ∷ later) → Step (plain before) turn.caller turn.at turn.event turn.out turn.picks (after (plain before) turn)
+last_turn before turn later legal = (LegalFrom-back opening before (turn ∷ later) legal).0.step
+
+pub begins : (before later : List Turn) (turn : Turn) (k : Kind) (pattern : Template) (lease : Lease) (id : ℕ) → Legal (before ++ turn ∷ later) → turn.event ≡ Reserve k pattern lease → turn.out ≡ out.Reserved id → Owns is_reserved turn.caller id (after (plain before) turn)
+begins before later turn k pattern lease id legal is e =
+    let both = reached_before before turn later legal in
+    reserves-Step id (plain before) turn k pattern lease (after (plain before) turn) both.numbered both.settled (last_turn before turn later legal) is e
+
+pub stays : (before later : List Turn) (turn : Turn) (k : Kind) (pattern : Template) (lease : Lease) (id : ℕ) → Legal (before ++ turn ∷ later) → turn.event ≡ Reserve k pattern lease → turn.out ≡ out.Reserved id → list_all (λ next. not (ends_own turn.caller id next)) later ≡ true → Owns any turn.caller id (plain (before ++ turn ∷ later))
+stays before later turn k pattern lease id legal is e none =
+    subst (λ (p : Plain). Owns any turn.caller id p) (sym (plain_from-append opening before (turn ∷ later)))
+    (owns_from turn.caller id (after (plain before) turn) later (LegalFrom-back opening before (turn ∷ later) legal).1 none
+    (told-Step (plain before) turn (after (plain before) turn) (last_turn before turn later legal) (told_from opening before (LegalFrom-front opening before (turn ∷ later) legal) told_opening))
+    (weaker is_reserved turn.caller id _ (begins before later turn k pattern lease id legal is e)))
+
+pub state_kept : (states : RequestState → Bool) (h : List Turn) (turn : Turn) (caller id : ℕ) → Open states → Legal (h ++ turn ∷ []) → is_own caller id turn ≡ false → Owns states caller id (plain h) → Owns states caller id (plain (h ++ turn ∷ []))
+state_kept states h turn caller id free legal other owns =
+    subst (λ (p : Plain). Owns states caller id p) (sym (plain_from-append opening h (turn ∷ [])))
+    (step_kept turn.caller turn.event (Owns states caller id) (owns_keeps states caller id free turn.caller turn.event other) (plain h) turn.at turn.out turn.picks (after (plain h) turn) (last_turn h turn [] legal) owns)
+
+pub submit_answers : (h : List Turn) (turn : Turn) (id : ℕ) → Legal (h ++ turn ∷ []) → Owns is_reserved turn.caller id (plain h) → turn.event ≡ Submit id → submits_well turn.out ≡ true
+submit_answers h turn id legal owns is = submit-Step id (plain h) turn (after (plain h) turn) (last_turn h turn [] legal) is owns
+
+pub settle_answers : (h : List Turn) (turn : Turn) (id tuple : ℕ) (ok : Bool) → Legal (h ++ turn ∷ []) → Owns (grants tuple) turn.caller id (plain h) → turn.event ≡ Settle id ok → turn.out ≡ out.Plain
+settle_answers h turn id tuple ok legal owns is = settle-Step id tuple ok (plain h) turn (after (plain h) turn) (last_turn h turn [] legal) is owns
+
+pub not_nothing : (s : Plain) (caller at id : ℕ) (ok : Bool) → (is_nothing s caller at (Submit id) ≡ false) × (is_nothing s caller at (Settle id ok) ≡ false)
+not_nothing s caller at id ok = (never _, never _)

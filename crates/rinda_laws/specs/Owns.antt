@@ -1,7 +1,10 @@
 -- Whose a request is, and what ends it.
 use Rattle.std.specs.Prelude.{◌≡◌, ℕ, Bool, true, false, not, ◌&&◌, ◌||◌, ◌==◌, List, [], ◌∷◌, ◌++◌, Some}
 use Rattle.std.specs.List.{list_all}
-use Rattle.rinda_rules.specs.declared.event.Event.TheVariants.{Submit, Settle}
+use Rattle.rinda_tuple.specs.declared.tuple.Template.{Template}
+use Rattle.rinda_tuple.specs.declared.lease.Lease.{Lease}
+use Rattle.rinda_rules.specs.declared.event.Kind.{Kind}
+use Rattle.rinda_rules.specs.declared.event.Event.TheVariants.{Reserve, Submit, Settle}
 use Rattle.rinda_rules.specs.declared.out.Out.{Out}
 use Rattle.rinda_rules.specs.declared.out.Out.TheVariants as out
 use Rattle.rinda_rules.specs.declared.turn.Turn.{Turn}
@@ -40,10 +43,16 @@ is_own caller id turn = turn.caller == caller && is_of id turn.event
 abbrev pub ends_own : ℕ → ℕ → Turn → Bool
 ends_own caller id turn = is_own caller id turn && is_last turn.out
 
--- From Reserved on, until the turn of its own caller that ends it, the request is that caller's.
+-- From a Reserve that is answered Reserved on, until the turn of its own caller that ends it, the request is that caller's.
 abbrev pub RequestStays : Type 0
-RequestStays = (before later : List Turn) (turn : Turn) (id : ℕ) → Legal (before ++ turn ∷ later) → turn.out ≡ out.Reserved id →
+RequestStays = (before later : List Turn) (turn : Turn) (kind : Kind) (pattern : Template) (lease : Lease) (id : ℕ) →
+    Legal (before ++ turn ∷ later) → turn.event ≡ Reserve kind pattern lease → turn.out ≡ out.Reserved id →
     list_all (λ next. not (ends_own turn.caller id next)) later ≡ true → Owns any turn.caller id (plain (before ++ turn ∷ later))
+
+-- It begins in the state reserved.
+abbrev pub RequestBegins : Type 0
+RequestBegins = (before : List Turn) (turn : Turn) (kind : Kind) (pattern : Template) (lease : Lease) (id : ℕ) →
+    Legal (before ++ turn ∷ []) → turn.event ≡ Reserve kind pattern lease → turn.out ≡ out.Reserved id → Owns is_reserved turn.caller id (plain (before ++ turn ∷ []))
 
 -- A request is reserved, or granted a tuple, until its own caller's turn.
 abbrev pub StateStays : Type 0

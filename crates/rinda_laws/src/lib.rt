@@ -3,3 +3,5 @@
 //! They stand on the rules alone, whatever program keeps them. Each function does nothing, and its contract is the
 //! law, which `specs/` says in full.
 #![tactic(auto)]
+
+pub mod requests;
