@@ -5,3 +5,4 @@
 #![tactic(auto)]
 
 pub mod requests;
+pub mod tuples;
