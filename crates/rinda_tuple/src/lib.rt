@@ -7,7 +7,9 @@
 //! plain words.
 #![tactic(auto)]
 
+mod class;
 pub mod lease;
+mod range;
 pub mod steps;
 pub mod tuple;
 
