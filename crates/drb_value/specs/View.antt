@@ -17,7 +17,7 @@ layer (N.Class n) = T.Tree-F.Class n
 layer (N.Module n) = T.Tree-F.Module n
 layer (N.Object f) = T.Tree-F.Object f.class f.fields
 layer (N.Struct f) = T.Tree-F.Struct f.class f.fields
-layer (N.Dumped d) = T.Tree-F.Dumped d.class d.bytes d.vars
+layer (N.Dumped d) = T.Tree-F.Dumped d.0 d.1 d.2
 layer (N.Wrapped w) = T.Tree-F.Wrapped w.class w.inner
 layer (N.Remote r) = T.Tree-F.Remote r
 

@@ -77,6 +77,7 @@ pub struct Fields {
     pub fields: FieldList,
 }
 
+/// A value that its class dumped by itself, as bytes. The class is never `DRb::DRbObject`.
 #[cycle(value)]
 #[derive(Drop)]
 pub struct Dumped {
@@ -108,7 +109,7 @@ pub struct FieldList {
 }
 
 impl Model for Pairs {
-    ghost use Rattle.std.specs.Prelude.{List, Option, ◌+◌, ◌*◌};
+    ghost use Rattle.std.specs.Prelude.{List, Option, IsTrue, ◌+◌, ◌*◌};
     ghost use Rattle.drb_tree.specs.declared.Tree.{Tree};
     ghost use Rattle.drb_tree.specs.contracts.Tree as e;
     ghost use Rattle.std.specs.Coded.{codes};
@@ -118,10 +119,13 @@ impl Model for Pairs {
     ghost coded = { Prim.hlevel (codes, e.the_row.coded) };
 
     ghost use Rattle.drb_tree.specs.Sizes.{pairs_depth};
+    ghost use Rattle.drb_tree.specs.Kept.{keys_distinct};
 
     ghost view = { λ a. (a.pairs, a.default) };
 
-    ghost size = { λ p. 2 * pairs_depth p + 1 };
+    ghost invariant = { λ a. IsTrue (keys_distinct a.pairs) };
+
+    ghost size = { λ p. 3 * pairs_depth p + 1 };
 
     ghost use Rattle.drb_value.specs.Falls.{pairs_fall};
 
@@ -145,11 +149,35 @@ impl Model for FieldList {
 
     ghost invariant = { λ a. IsTrue (names_distinct a.list) };
 
-    ghost size = { λ fs. 2 * fields_depth fs + 1 };
+    ghost size = { λ fs. 3 * fields_depth fs + 1 };
 
     ghost use Rattle.drb_value.specs.Falls.{fields_fall};
 
     ghost size_decreases = { λ a h. fields_fall a };
+}
+
+impl Model for Dumped {
+    ghost use Rattle.std.specs.Prelude.{◌≡◌, ℕ, List, ◌+◌, ◌*◌};
+    ghost use Rattle.drb_tree.specs.declared.Tree.{Tree};
+    ghost use Rattle.drb_tree.specs.contracts.Tree as e;
+    ghost use Rattle.std.specs.Coded.{codes};
+
+    ghost Value = { List ℕ × List ℕ × List (List ℕ × Tree) };
+
+    ghost coded = { Prim.hlevel (codes, e.the_row.coded) };
+
+    ghost use Rattle.drb_tree.specs.Sizes.{fields_depth};
+    ghost use Rattle.drb_tree.specs.Kept.{remote_class};
+
+    ghost view = { λ a. (a.class, a.bytes, a.vars) };
+
+    ghost invariant = { λ a. a.class ≡ remote_class → ⊥ };
+
+    ghost size = { λ d. 3 * fields_depth d.2 + 2 };
+
+    ghost use Rattle.drb_value.specs.Falls.{dumped_falls};
+
+    ghost size_decreases = { λ a h. dumped_falls a };
 }
 
 impl Model for Value {
@@ -168,7 +196,7 @@ impl Model for Value {
 
     ghost use Rattle.drb_tree.specs.Sizes.{depth};
 
-    ghost size = { λ t. 2 * depth t };
+    ghost size = { λ t. 3 * depth t };
 
     ghost use Rattle.drb_value.specs.Falls.{falls};
 
