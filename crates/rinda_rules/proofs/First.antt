@@ -1,0 +1,20 @@
+-- The first turn of a space.
+use Rattle.std.proofs.Common.{◌≡◌, ℕ, Bool, true, false, List, [], ◌∷◌, Option, Some, None, refl, arith}
+use Rattle.std.specs.Prelude.{IsTrue, max}
+use Rattle.rinda_tuple.specs.declared.tuple.Tuple.{Tuple}
+use Rattle.rinda_tuple.specs.declared.lease.Life.TheVariants.{Never}
+use Rattle.rinda_rules.specs.declared.event.Event.TheVariants.{Write}
+use Rattle.rinda_rules.specs.declared.out.Out.TheVariants.{Entry}
+use Rattle.rinda_rules.specs.declared.turn.Turn.{Turn}
+use Rattle.rinda_rules.specs.Space.{opening}
+use Rattle.rinda_rules.specs.Fixed.{after}
+use Rattle.rinda_rules.specs.Settled.{Settled}
+use Rattle.rinda_rules.specs.Legal.{Legal, MayCome}
+
+-- the write of a tuple for ever, as the first turn
+abbrev pub first_write : ℕ → ℕ → Tuple → Turn
+first_write caller at value = record { caller = caller; at = at; event = Write value (record { life = Never; renewer = None }); out = Entry 1; picks = [] }
+
+-- it is legal, whoever writes whatever tuple at whatever time
+pub first_write_is_legal : (caller at : ℕ) (value : Tuple) → Legal (first_write caller at value ∷ [])
+first_write_is_legal caller at value = (record { something = refl; step = (refl, (refl, refl)); settled = record { nobody = refl; not_due = refl; kept = refl } }, tt)

@@ -1,0 +1,11 @@
+pub mod Rows
+pub mod Space
+pub mod Queue
+pub mod Phases
+pub mod Cases
+pub mod Nothing
+pub mod Steps
+pub mod Fixed
+pub mod Settled
+pub mod Legal
+pub mod Full
