@@ -9,3 +9,4 @@ pub mod Fixed
 pub mod Settled
 pub mod Legal
 pub mod Full
+pub mod Laws

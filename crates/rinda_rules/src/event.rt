@@ -18,7 +18,10 @@ pub enum Kind {
 #[derive(Drop)]
 pub enum Event {
     /// Writes a tuple.
-    Write { value: Tuple, lease: Lease },
+    Write {
+        value: Tuple,
+        lease: Lease,
+    },
     /// Makes a request, which is not submitted yet.
     Reserve {
         kind: Kind,
@@ -26,23 +29,43 @@ pub enum Event {
         lease: Lease,
     },
     /// Submits the caller's own request: it is served at once, or waits.
-    Submit { id: u64 },
+    Submit {
+        id: u64,
+    },
     /// Asks for the answer of the caller's own request.
-    Collect { id: u64 },
+    Collect {
+        id: u64,
+    },
     /// Says whether the tuple that the caller's own request holds has arrived.
-    Settle { id: u64, ok: bool },
+    Settle {
+        id: u64,
+        ok: bool,
+    },
     /// Gives up waiting, for a tuple or for a notifier's next event.
-    Withdraw { id: u64 },
+    Withdraw {
+        id: u64,
+    },
     /// Cancels a tuple, a request or a notifier.
-    Cancel { id: u64 },
+    Cancel {
+        id: u64,
+    },
     /// Gives an object a new lease.
-    Renew { id: u64, lease: Lease },
+    Renew {
+        id: u64,
+        lease: Lease,
+    },
     /// Asks whether an object is alive, expired or canceled.
-    Look { id: u64 },
+    Look {
+        id: u64,
+    },
     /// Asks for the tuple of an entry.
-    Value { id: u64 },
+    Value {
+        id: u64,
+    },
     /// Asks for all tuples that match.
-    ReadAll { pattern: Template },
+    ReadAll {
+        pattern: Template,
+    },
     /// Makes a notifier of events that the value `event` suits.
     Notify {
         event: Value,
@@ -50,11 +73,16 @@ pub enum Event {
         lease: Lease,
     },
     /// Asks for a notifier's next event.
-    Pop { id: u64 },
+    Pop {
+        id: u64,
+    },
     /// Asks which renewer is to be asked next.
     NextAsk,
     /// Tells the life that a renewer answered.
-    Asked { id: u64, life: Life },
+    Asked {
+        id: u64,
+        life: Life,
+    },
     /// Lets the space age.
     Tick,
 }
