@@ -52,8 +52,8 @@ fn name_suits(e: &Node, x: &Node) -> bool
     ensures { result ≡ name_suits_spec (layer e.now) (layer x.now) }
 {
     match e {
-        Node::Class(name) => class_suits(name.bytes.as_slice(), x),
-        Node::Module(name) => class_suits(name.bytes.as_slice(), x),
+        Node::Class(name) => class_suits(name.as_slice(), x),
+        Node::Module(name) => class_suits(name.as_slice(), x),
         _ => false,
     }
 }
@@ -77,3 +77,6 @@ fn matches_once<L: Ledger>(t: &Template, u: &Tuple, blank: Blank) -> bool
     let mut steps = Steps::<L>::new(blank);
     matches(t, u, &mut steps)
 }
+
+#[cfg(test)]
+mod tests;

@@ -15,10 +15,10 @@ pub fn range_suits(e: &Node, x: &Node) -> bool
     let Node::Object(object) = e else {
         return false;
     };
-    if object.class.bytes.as_slice() != b"Range".as_slice() {
+    if object.class.as_slice() != b"Range".as_slice() {
         return false;
     }
-    let fields = object.fields.list.as_slice();
+    let fields = object.fields.as_slice();
     if fields.len() != 3 {
         return false;
     }
@@ -59,7 +59,7 @@ fn field_of<'a>(name: &[u8], fields: &'a [(Name, Value)]) -> Option<&'a Value>
     ensures { option_copied result ≡ field_of_spec name.now fields.now }
 {
     for field in fields {
-        if field.0.bytes.as_slice() == name {
+        if field.0.as_slice() == name {
             return Some(&field.1);
         }
     }
