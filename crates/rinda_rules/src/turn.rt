@@ -1,7 +1,7 @@
-ghost use Rattle.std.specs.Prelude.{◌≡◌, []};
+ghost use Rattle.std.specs.Prelude.{◌≡◌, [], IfOk};
 
 use crate::{Event, Out};
-use std::alloc::Global;
+use std::alloc::{AllocError, Global};
 use std::marker::Model;
 
 /// A match that a turn chose: the request gets the tuple.
@@ -49,6 +49,17 @@ impl Picks {
     {
         self.list.as_slice()
     }
+
+    /// The same picks.
+    ///
+    /// Errors: only want of memory.
+    pub fn copy(&self, alloc: Global) -> Result<Picks, AllocError>
+        ensures { IfOk result (λ picks. picks ≡ self.now) }
+    {
+        Ok(Picks {
+            list: Vec::from_slice(alloc, self.list.as_slice())?,
+        })
+    }
 }
 
 /// One event of one caller, with what was answered and which matches were picked.
@@ -61,4 +72,24 @@ pub struct Turn {
     pub event: Event,
     pub out: Out,
     pub picks: Picks,
+}
+
+impl Turn {
+    /// An equal turn.
+    ///
+    /// Errors: only want of memory.
+    pub fn copy(&self, alloc: Global) -> Result<Turn, AllocError>
+        ensures { IfOk result (λ turn. turn ≡ self.now) }
+    {
+        let event = self.event.copy(alloc)?;
+        let out = self.out.copy(alloc)?;
+        let picks = self.picks.copy(alloc)?;
+        Ok(Turn {
+            caller: self.caller,
+            at: self.at,
+            event,
+            out,
+            picks,
+        })
+    }
 }
