@@ -73,23 +73,3 @@ pub struct Turn {
     pub out: Out,
     pub picks: Picks,
 }
-
-impl Turn {
-    /// An equal turn.
-    ///
-    /// Errors: only want of memory.
-    pub fn copy(&self, alloc: Global) -> Result<Turn, AllocError>
-        ensures { IfOk result (λ turn. turn ≡ self.now) }
-    {
-        let event = self.event.copy(alloc)?;
-        let out = self.out.copy(alloc)?;
-        let picks = self.picks.copy(alloc)?;
-        Ok(Turn {
-            caller: self.caller,
-            at: self.at,
-            event,
-            out,
-            picks,
-        })
-    }
-}
