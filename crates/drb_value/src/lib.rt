@@ -1,14 +1,35 @@
-//! Values.
+//! The values that requests carry, the tuples of the space among them, as they stand in memory.
+//!
+//! A value is a `Value` round a `Node`, one of fourteen forms; contracts see it as the tree of `drb_tree`. The crate
+//! stands on that tree and on the lists of `sqlite_items`. It promises that values are made, copied, compared and
+//! measured exactly as docs/MARSHAL.md says, and that every value keeps its rules: names are UTF-8, the keys of a hash
+//! and the names of fields are distinct, and no dumped value is of class `DRb::DRbObject`.
+//!
+//! Read this file for the types, then `names.rt`, `hashes.rt` and `lists.rt` for what goes into a value, `makers.rt`
+//! for how one is made, `equality.rt`, `sizes.rt` and `copies.rt` for what can be asked of it. `specs/View.antt` says
+//! which tree a node is.
 #![tactic(auto)]
 
-ghost use Rattle.std.specs.Prelude.{◌≡◌, ◌↔◌, IfOk, IsUtf8, Err};
+mod copies;
+mod equality;
+mod hashes;
+mod lists;
+mod makers;
+mod names;
+mod sizes;
 
-use drb_tree::{Remote, Text};
-use sqlite_items::{Boxed, Items};
-use std::alloc::Global;
+pub use copies::copy_items;
+pub use drb_tree::{Code, RefId, Remote, Text};
+pub use equality::same;
+pub use hashes::PairError;
+pub use names::NameError;
+pub use sqlite_items::{Boxed, Items};
+
 use std::marker::Model;
 
-/// A name is valid UTF-8.
+/// A symbol, a class, or the name of a field: bytes that are valid UTF-8.
+///
+/// Source: docs/MARSHAL.md, Values.
 #[derive(Debug, Drop)]
 pub struct Name {
     pub bytes: Items<u8>,
@@ -24,33 +45,18 @@ impl Model for Name {
     ghost invariant = { λ a. IsUtf8 a.bytes };
 }
 
-#[derive(Clone, Copy, Debug, PartialEq, Eq)]
-pub enum NameError {
-    NotUtf8,
-    Memory,
-}
-
-impl Name {
-    pub fn of(alloc: Global, bytes: &[u8]) -> Result<Name, NameError>
-        ensures value { IfOk result (λ n. n ≡ bytes.now) }
-        ensures not_utf8 { (result ≡ Err NameError.NotUtf8) ↔ (IsUtf8 bytes.now → ⊥) }
-    {
-        if std::str::from_utf8(bytes).is_err() {
-            return Err(NameError::NotUtf8);
-        }
-        match Items::from_slice(alloc, bytes) {
-            Ok(bytes) => Ok(Name { bytes }),
-            Err(_) => Err(NameError::Memory),
-        }
-    }
-}
-
+/// A value of Ruby. Contracts see the tree of its node.
+///
+/// Source: docs/MARSHAL.md, Values.
 #[cycle(value)]
 #[derive(Drop)]
 pub struct Value {
     pub node: Node,
 }
 
+/// The forms of a value, to match on.
+///
+/// Source: docs/MARSHAL.md, Values.
 #[cycle(value)]
 #[derive(Drop)]
 pub enum Node {
@@ -70,6 +76,7 @@ pub enum Node {
     Remote(Remote),
 }
 
+/// The class and the fields of an object, or the class and the members of a struct.
 #[cycle(value)]
 #[derive(Drop)]
 pub struct Fields {
@@ -77,7 +84,9 @@ pub struct Fields {
     pub fields: FieldList,
 }
 
-/// A value that its class dumped by itself, as bytes. The class is never `DRb::DRbObject`.
+/// A value that its class dumped by itself, as bytes, and that stays as it came. The class is never `DRb::DRbObject`.
+///
+/// Source: Ruby's `_dump`; docs/MARSHAL.md, Values.
 #[cycle(value)]
 #[derive(Drop)]
 pub struct Dumped {
@@ -86,6 +95,9 @@ pub struct Dumped {
     pub vars: FieldList,
 }
 
+/// A value that its class dumped as another value.
+///
+/// Source: Ruby's `marshal_dump`; docs/MARSHAL.md, Values.
 #[cycle(value)]
 #[derive(Drop)]
 pub struct Wrapped {
@@ -93,7 +105,7 @@ pub struct Wrapped {
     pub inner: Boxed<Value>,
 }
 
-/// The pairs of a hash and its default. No two keys are the same.
+/// The pairs of a hash in their order, and its default. No two keys are the same.
 #[cycle(value)]
 #[derive(Drop)]
 pub struct Pairs {
@@ -101,7 +113,7 @@ pub struct Pairs {
     pub default: Option<Boxed<Value>>,
 }
 
-/// Names and values. No two names are equal.
+/// Names and values in their order. No name stands twice.
 #[cycle(value)]
 #[derive(Drop)]
 pub struct FieldList {

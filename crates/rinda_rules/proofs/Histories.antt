@@ -1,6 +1,6 @@
 -- What the picks of a turn fix, and a history with one more turn.
 use Rattle.std.proofs.Common.{◌≡◌, ℕ, Bool, true, false, ◌&&◌, List, [], ◌∷◌, ◌++◌, Option, Some, None, refl, sym, ◌∙◌, ap, subst, arith}
-use Rattle.std.specs.Prelude.{IsTrue}
+use Rattle.std.specs.Prelude.{IsTrue, ◌↔◌}
 use Rattle.rinda_rules.specs.declared.plain.Request.{Request}
 use Rattle.rinda_rules.specs.declared.turn.Pick.{Pick}
 use Rattle.rinda_rules.specs.declared.event.Event.{Event}
@@ -58,3 +58,10 @@ plain_from-push s (x ∷ xs) t = plain_from-push (after s x) xs t
 pub LegalFrom-push : (s : Plain) (h : List Turn) (t : Turn) → LegalFrom s h → MayCome (plain_from s h) t → LegalFrom s (h ++ t ∷ [])
 LegalFrom-push s [] t legal may = (may, tt)
 LegalFrom-push s (x ∷ xs) t legal may = (legal.0, LegalFrom-push (after s x) xs t legal.1 may)
+
+-- what fits, is answered so and leads there is a step
+pub Step-of : (s : Plain) (caller at : ℕ) (event : Event) (out : Out) (picks : List Pick) (s' : Plain) → picks_fit s caller at event picks ≡ true → out ≡ (turn_with s caller at event picks).out → s' ≡ (turn_with s caller at event picks).after → Step s caller at event out picks s'
+Step-of s caller at event out picks s' fit o p = rw (o, p) (Step-fits s caller at event picks fit)
+
+pub Step-is-fixed : (s : Plain) (caller at : ℕ) (event : Event) (out : Out) (picks : List Pick) (s' : Plain) → Step s caller at event out picks s' ↔ ((picks_fit s caller at event picks ≡ true) × (out ≡ (turn_with s caller at event picks).out) × (s' ≡ (turn_with s caller at event picks).after))
+Step-is-fixed s caller at event out picks s' = (λ h. fits-Step s caller at event out picks s' h, λ h. Step-of s caller at event out picks s' h.0 h.1 h.2)

@@ -32,29 +32,11 @@ use Rattle.rinda_rules.specs.Rows.{row_of, changed, without}
 use Rattle.rinda_rules.specs.Space.{Plain, Found, TheTuple, TheRequest, TheNotifier, HasEnded, IsRecycled, IsUnknown, found, tuple_at, request_at, notifier_at, is_over, renewer_of, value_of, is_reserved, is_parked, is_doubted, is_free, is_live, is_read, is_waiting, may_have, has_match, fits, event_value}
 use Rattle.rinda_rules.specs.Queue.{queue}
 use Rattle.rinda_rules.specs.Phases.{advanced, aged, tuple_ended, request_ended, notifier_ended, in_state, request_in, held_by, served_as, served_with, is_match, may_have_row, may_serve, may_serve_row, read_waits, served, served_rows, Serve}
-use Rattle.rinda_rules.specs.Cases.{Outcome, answers, with_tuple, with_request, with_notifier, new_tuple, minted, written, written_over, write_tuple, write, reserve, notify, on_own, submit, submit_matched, submit_unmatched, collect_served, collect, last_of, value_at, let_go, settle_tuple, settle, pop_empty, pop_queue, pop_notifier, pop_ended, pop, withdraw_request, withdraw, cancel_tuple, cancel_request, cancel_notifier, cancel, renewed_tuple, renewed_request, renewed_notifier, renew_request, renew_notifier, renew_with, renew, look, value, value_ended, all_of, Asking, askings, least, asked_for, ask, is_asked, told_tuple, told_request, told_notifier, told, outcome}
+use Rattle.rinda_rules.specs.Cases.{Outcome, answers, with_tuple, with_request, with_notifier, new_tuple, minted, written, written_over, write_tuple, write, reserve, notify, on_own, submit, submit_matched, submit_unmatched, collect_served, collect, last_of, value_at, let_go, settle_tuple, settle, pop_empty, pop_queue, pop_notifier, pop_ended, pop, withdraw_request, withdraw, cancel_tuple, cancel_request, cancel_notifier, cancel, renewed_tuple, renewed_request, renewed_notifier, renew_request, renew_notifier, renew_with, renew, look, value, value_ended, all_of, Asking, askings, least, asked_doubt, asked_for, ask, is_asked, told_tuple, told_request, told_notifier, told, outcome}
 use Rattle.rinda_rules.specs.Steps.{matched, chooser, found_by, Case, Step}
+use Rattle.rinda_rules.specs.Own.{is_of}
 use Rattle.rinda_rules.proofs.Finding.{itself-request, itself-tuple, itself-notifier, found-request, found-tuple, found-notifier}
 use Rattle.rinda_rules.proofs.Lists.{row_has_id, row_changed_here}
-
--- the event is one of those that only a request's own caller makes of it
-abbrev pub is_of : ℕ → Event → Bool
-is_of id (Write value lease) = false
-is_of id (Reserve kind pattern lease) = false
-is_of id (Submit i) = i == id
-is_of id (Collect i) = i == id
-is_of id (Settle i ok) = i == id
-is_of id (Withdraw i) = i == id
-is_of id (Cancel i) = false
-is_of id (Renew i lease) = false
-is_of id (Look i) = false
-is_of id (Value i) = false
-is_of id (ReadAll pattern) = false
-is_of id (Notify event pattern lease) = false
-is_of id (Pop i) = false
-is_of id NextAsk = false
-is_of id (Asked i life) = false
-is_of id Tick = false
 
 -- a tuple is changed in its life and doubt alone
 pub record LeasesTuple (f : Entry → Entry) : Type 0 where
@@ -79,6 +61,10 @@ pub record KeepsNotifier (f : Notifier → Notifier) : Type 0 where
   pub pattern : (n : Notifier) → (f n).pattern ≡ n.pattern
   pub since : (n : Notifier) → (f n).since ≡ n.since
 
+-- a request whose life may be changed: it is reserved or parked, or its renewer is being asked
+abbrev pub may_lease : Request → Bool
+may_lease r = is_asked r.doubt || (is_reserved r.state || is_parked r.state)
+
 -- why a request may be served: it waits, or its caller submits it
 pub data Serves (caller : ℕ) (event : Event) (r : Request) : Type 0 where
   waits : r.state ≡ state.Parked → Serves caller event r
@@ -100,7 +86,8 @@ pub record Keeps (caller : ℕ) (event : Event) (P : Plain → Type 0) : Type 0 
   pub tuple_leaves : (l : Last) (t : Entry) (s : Plain) → tuple_at s t.id ≡ Some t → t.holder ≡ None → P s → P (tuple_ended l t s)
   pub tuple_leases : (id : ℕ) (f : Entry → Entry) (s : Plain) → LeasesTuple f → P s → P (with_tuple id f s)
   pub tuple_marks : (t : Entry) (h : ℕ) (s : Plain) → tuple_at s t.id ≡ Some t → t.holder ≡ Some h → P s → P (with_tuple t.id (λ t. record t { marked = true }) s)
-  pub request_leases : (id : ℕ) (f : Request → Request) (s : Plain) → LeasesRequest f → P s → P (with_request id f s)
+  pub request_leases : (r : Request) (f : Request → Request) (s : Plain) → request_at s r.id ≡ Some r → LeasesRequest f → may_lease r ≡ true → P s → P (with_request r.id f s)
+  pub request_asks : (id : ℕ) (s : Plain) → P s → P (with_request id (λ r. record r { doubt = asked_doubt r.doubt }) s)
   pub request_marks : (r : Request) (s : Plain) → request_at s r.id ≡ Some r → r.state ≡ state.Reserved → event ≡ Cancel r.id → P s → P (with_request r.id (λ r. record r { marked = true }) s)
   pub request_parks : (r : Request) (s : Plain) → request_at s r.id ≡ Some r → r.state ≡ state.Reserved → r.caller ≡ caller → event ≡ Submit r.id → P s → P (request_in r.id state.Parked s)
   pub request_answers : (r : Request) (o : Out) (s : Plain) → request_at s r.id ≡ Some r → Answers caller event r o → P s → P (request_in r.id (state.Answered o) s)
@@ -117,6 +104,12 @@ front a b e = grind arith
 
 back : (a b : Bool) → (a && b) ≡ true → b ≡ true
 back a b e = grind arith
+
+or_left : (a b : Bool) → a ≡ true → (a || b) ≡ true
+or_left a b e = grind arith
+
+or_right : (a b : Bool) → b ≡ true → (a || b) ≡ true
+or_right a b e = grind arith
 
 last_of_four : (a b c d : Bool) → (a && (b && (c || d))) ≡ true → c ≡ false → d ≡ true
 last_of_four a b c d e f = grind arith
@@ -182,7 +175,7 @@ module _ (caller : ℕ) (event : Event) (P : Plain → Type 0) (k : Keeps caller
       served_kept r.kind r t s refl (itself-request s pick.request r re) (itself-tuple s pick.tuple t te)
       (subst (λ (o : Option Entry). may_have_row s r o ≡ true) te row) (waits (parked_of r.state (front _ _ (front _ _ may)))) h
 
-  serve_kept : (s : Plain) (picks : List Pick) (s' : Plain) → Serve s picks s' → P s → P s'
+  pub serve_kept : (s : Plain) (picks : List Pick) (s' : Plain) → Serve s picks s' → P s → P s'
   serve_kept s [] s' serve h = subst P (sym serve.1) h
   serve_kept s (pick ∷ picks) s' serve h =
       serve_kept (served s pick) picks s' serve.1 (rows_kept s pick (request_at s pick.request) (tuple_at s pick.tuple) refl refl serve.0 h)
@@ -317,23 +310,23 @@ module _ (caller : ℕ) (event : Event) (P : Plain → Type 0) (k : Keeps caller
 
   -- renew and asked
 
-  renew_request_kept : (s : Plain) (d : Option ℕ) (renewer : Option Remote) (r : Request) (st : RequestState) → P s → P (renew_request s d renewer r st)
-  renew_request_kept s d renewer r state.Reserved h = k.request_leases r.id _ s (leases_request d renewer) h
-  renew_request_kept s d renewer r state.Parked h = k.request_leases r.id _ s (leases_request d renewer) h
-  renew_request_kept s d renewer r (state.Granted t) h = h
-  renew_request_kept s d renewer r (state.Answered o) h = h
+  renew_request_kept : (s : Plain) (d : Option ℕ) (renewer : Option Remote) (r : Request) (st : RequestState) → r.state ≡ st → request_at s r.id ≡ Some r → P s → P (renew_request s d renewer r st)
+  renew_request_kept s d renewer r state.Reserved is there h = k.request_leases r _ s there (leases_request d renewer) (or_right (is_asked r.doubt) _ (or_left (is_reserved r.state) (is_parked r.state) (ap is_reserved is))) h
+  renew_request_kept s d renewer r state.Parked is there h = k.request_leases r _ s there (leases_request d renewer) (or_right (is_asked r.doubt) _ (or_right (is_reserved r.state) (is_parked r.state) (ap is_parked is))) h
+  renew_request_kept s d renewer r (state.Granted t) is there h = h
+  renew_request_kept s d renewer r (state.Answered o) is there h = h
 
   renew_notifier_kept : (s : Plain) (d : Option ℕ) (renewer : Option Remote) (n : Notifier) (st : Hearing) → P s → P (renew_notifier s d renewer n st)
   renew_notifier_kept s d renewer n hearing.Running h = k.notifier_changes n.id _ s (leases_notifier d renewer) h
   renew_notifier_kept s d renewer n (hearing.Closed l until) h = h
 
-  renew_kept : (s : Plain) (d : Option ℕ) (renewer : Option Remote) (f : Found) → P s → P (renew_with s d renewer f).after
-  renew_kept s d renewer (TheRequest r) h = renew_request_kept s d renewer r r.state h
-  renew_kept s d renewer (TheTuple t) h = k.tuple_leases t.id _ s (leases_tuple d renewer) h
-  renew_kept s d renewer (TheNotifier n) h = renew_notifier_kept s d renewer n n.state h
-  renew_kept s d renewer (HasEnded kd l) h = h
-  renew_kept s d renewer IsRecycled h = h
-  renew_kept s d renewer IsUnknown h = h
+  renew_kept : (s : Plain) (id : ℕ) (d : Option ℕ) (renewer : Option Remote) (f : Found) → found s id ≡ f → P s → P (renew_with s d renewer f).after
+  renew_kept s id d renewer (TheRequest r) e h = renew_request_kept s d renewer r r.state refl (itself-request s id r (found-request s id r e)) h
+  renew_kept s id d renewer (TheTuple t) e h = k.tuple_leases t.id _ s (leases_tuple d renewer) h
+  renew_kept s id d renewer (TheNotifier n) e h = renew_notifier_kept s d renewer n n.state h
+  renew_kept s id d renewer (HasEnded kd l) e h = h
+  renew_kept s id d renewer IsRecycled e h = h
+  renew_kept s id d renewer IsUnknown e h = h
 
   told_tuple_kept : (s : Plain) (d : Option ℕ) (t : Entry) → P s → P (told_tuple s d t)
   told_tuple_kept s d t h = by_test (is_asked t.doubt)
@@ -342,12 +335,12 @@ module _ (caller : ℕ) (event : Event) (P : Plain → Type 0) (k : Keeps caller
       by_test true = k.tuple_leases t.id _ s (leases_tuple d (renewer_of d t.renewer s.clock)) h
       by_test false = h
 
-  told_request_kept : (s : Plain) (d : Option ℕ) (r : Request) → P s → P (told_request s d r)
-  told_request_kept s d r h = by_test (is_asked r.doubt)
+  told_request_kept : (s : Plain) (d : Option ℕ) (r : Request) → request_at s r.id ≡ Some r → P s → P (told_request s d r)
+  told_request_kept s d r there h = by_test (is_asked r.doubt) refl
     where
-      by_test : (b : Bool) → P (cond {A = Plain} b (with_request r.id (renewed_request d (renewer_of d r.renewer s.clock)) s) s)
-      by_test true = k.request_leases r.id _ s (leases_request d (renewer_of d r.renewer s.clock)) h
-      by_test false = h
+      by_test : (b : Bool) → is_asked r.doubt ≡ b → P (cond {A = Plain} b (with_request r.id (renewed_request d (renewer_of d r.renewer s.clock)) s) s)
+      by_test true e = k.request_leases r _ s there (leases_request d (renewer_of d r.renewer s.clock)) (or_left (is_asked r.doubt) _ e) h
+      by_test false e = h
 
   told_notifier_kept : (s : Plain) (d : Option ℕ) (n : Notifier) → P s → P (told_notifier s d n)
   told_notifier_kept s d n h = by_test (is_asked n.doubt)
@@ -356,19 +349,19 @@ module _ (caller : ℕ) (event : Event) (P : Plain → Type 0) (k : Keeps caller
       by_test true = k.notifier_changes n.id _ s (leases_notifier d (renewer_of d n.renewer s.clock)) h
       by_test false = h
 
-  told_kept : (s : Plain) (d : Option ℕ) (f : Found) → P s → P (told s d f).after
-  told_kept s d (TheRequest r) h = told_request_kept s d r h
-  told_kept s d (TheTuple t) h = told_tuple_kept s d t h
-  told_kept s d (TheNotifier n) h = told_notifier_kept s d n h
-  told_kept s d (HasEnded kd l) h = h
-  told_kept s d IsRecycled h = h
-  told_kept s d IsUnknown h = h
+  told_kept : (s : Plain) (id : ℕ) (d : Option ℕ) (f : Found) → found s id ≡ f → P s → P (told s d f).after
+  told_kept s id d (TheRequest r) e h = told_request_kept s d r (itself-request s id r (found-request s id r e)) h
+  told_kept s id d (TheTuple t) e h = told_tuple_kept s d t h
+  told_kept s id d (TheNotifier n) e h = told_notifier_kept s d n h
+  told_kept s id d (HasEnded kd l) e h = h
+  told_kept s id d IsRecycled e h = h
+  told_kept s id d IsUnknown e h = h
 
   ask_kept : (s : Plain) (a : Option Asking) → P s → P (ask s a).after
   ask_kept s None h = h
   ask_kept s (Some a) h =
       k.tuple_leases a.id _ _ (record { id = λ t. refl; value = λ t. refl; holder = λ t. refl; marked = λ t. refl })
-      (k.request_leases a.id _ _ (record { id = λ r. refl; caller = λ r. refl; kind = λ r. refl; pattern = λ r. refl; marked = λ r. refl; state = λ r. refl })
+      (k.request_asks a.id _
       (k.notifier_changes a.id _ s (record { id = λ n. refl; event = λ n. refl; pattern = λ n. refl; since = λ n. refl }) h))
 
   look_kept : (s : Plain) (f : Found) → P s → P (look s f).after
@@ -407,12 +400,81 @@ module _ (caller : ℕ) (event : Event) (P : Plain → Type 0) (k : Keeps caller
   outcome_kept s (Settle id ok) choice is chosen h = on_own_kept s id (found s id) (λ r. settle s r ok r.state) refl (λ r there same own. settle_kept s r ok r.state refl there own (is ∙ ap (λ (i : ℕ). Settle i ok) (sym same)) h) h
   outcome_kept s (Withdraw id) choice is chosen h = withdraw_kept s id (found s id) refl is h
   outcome_kept s (Cancel id) choice is chosen h = cancel_kept s id (found s id) refl is h
-  outcome_kept s (Renew id lease) choice is chosen h = renew_kept s (deadline lease.life s.clock) (renewer_of (deadline lease.life s.clock) lease.renewer s.clock) (found s id) h
+  outcome_kept s (Renew id lease) choice is chosen h = renew_kept s id (deadline lease.life s.clock) (renewer_of (deadline lease.life s.clock) lease.renewer s.clock) (found s id) refl h
   outcome_kept s (Look id) choice is chosen h = look_kept s (found s id) h
   outcome_kept s (Value id) choice is chosen h = value_kept s (found s id) h
   outcome_kept s (ReadAll pattern) choice is chosen h = h
   outcome_kept s (Notify e pattern lease) choice is chosen h = k.notifies s e pattern lease h
   outcome_kept s (Pop id) choice is chosen h = pop_kept s (found s id) h
   outcome_kept s NextAsk choice is chosen h = ask_kept s (least (askings s)) h
-  outcome_kept s (Asked id life) choice is chosen h = told_kept s (deadline life s.clock) (found s id) h
+  outcome_kept s (Asked id life) choice is chosen h = told_kept s id (deadline life s.clock) (found s id) refl h
   outcome_kept s Tick choice is chosen h = h
+
+-- the request that picks in its own case is the one that the event submits
+matched-found : (s : Plain) (caller id : ℕ) (f : Found) (r : Request) → matched s caller f ≡ Some r → f ≡ TheRequest r
+matched-found s caller id (TheTuple t) r e = cc
+matched-found s caller id (TheNotifier n) r e = cc
+matched-found s caller id (HasEnded kd l) r e = cc
+matched-found s caller id IsRecycled r e = cc
+matched-found s caller id IsUnknown r e = cc
+matched-found s caller id (TheRequest q) r e = by_test (q.caller == caller && (is_reserved q.state && has_match s q)) e
+  where
+    by_test : (b : Bool) → cond {A = Option Request} b (Some q) None ≡ Some r → TheRequest q ≡ TheRequest r
+    by_test true e = grind arith
+    by_test false e = cc
+
+abbrev submit_id : Event → ℕ
+submit_id (Submit i) = i
+submit_id _ = 0
+
+submitted : (i id : ℕ) → Submit i ≡ Submit id → i ≡ id
+submitted i id e = ap submit_id e
+
+chooser-submits : (s : Plain) (caller : ℕ) (event : Event) (r : Request) (id : ℕ) → chooser s caller event ≡ Some r → event ≡ Submit id → request_at s id ≡ Some r
+chooser-submits s caller (Write v lease) r id e is = cc
+chooser-submits s caller (Reserve kd pattern lease) r id e is = cc
+chooser-submits s caller (Submit i) r id e is = found-request s id r (rw (← submitted i id is) (matched-found s caller i (found s i) r e))
+chooser-submits s caller (Collect i) r id e is = cc
+chooser-submits s caller (Settle i ok) r id e is = cc
+chooser-submits s caller (Withdraw i) r id e is = cc
+chooser-submits s caller (Cancel i) r id e is = cc
+chooser-submits s caller (Renew i lease) r id e is = cc
+chooser-submits s caller (Look i) r id e is = cc
+chooser-submits s caller (Value i) r id e is = cc
+chooser-submits s caller (ReadAll pattern) r id e is = cc
+chooser-submits s caller (Notify x pattern lease) r id e is = cc
+chooser-submits s caller (Pop i) r id e is = cc
+chooser-submits s caller NextAsk r id e is = cc
+chooser-submits s caller (Asked i life) r id e is = cc
+chooser-submits s caller Tick r id e is = cc
+
+pub chosen_none : (s : Plain) (event : Event) → Chosen s event None
+chosen_none s event t e = cc
+
+pub chosen_match : (s : Plain) (caller : ℕ) (event : Event) (r : Request) (pick : Pick) → chooser s caller event ≡ Some r → is_match s r pick ≡ true → Chosen s event (tuple_at s pick.tuple)
+chosen_match s caller event r pick chooses match t e = (
+  itself-tuple s pick.tuple t e,
+  λ q is there.
+      let same : q ≡ r = some_same (sym there ∙ chooser-submits s caller event r q.id chooses is) in
+      rw same (subst (λ (o : Option Entry). may_have_row s r o ≡ true) e (back _ _ match)),
+)
+  where
+    some_same : {x y : Request} → Some x ≡ Some y → x ≡ y
+    some_same e = grind arith
+
+module _ (caller : ℕ) (event : Event) (P : Plain → Type 0) (k : Keeps caller event P) where
+  case_kept : (s : Plain) (r : Option Request) (o : Out) (picks : List Pick) (s' : Plain) → chooser s caller event ≡ r → Case s caller event r o picks s' → P s → P s'
+  case_kept s None o picks s' chooses case h =
+      serve_kept caller event P k _ picks s' case.1 (k.ages ((outcome s caller event None).after) (outcome_kept caller event P k s event None refl (chosen_none s event) h))
+  case_kept s (Some r) o [] s' chooses case h = absurd case
+  case_kept s (Some r) o (pick ∷ picks) s' chooses case h =
+      serve_kept caller event P k _ picks s' case.2
+      (k.ages ((outcome s caller event (tuple_at s pick.tuple)).after) (outcome_kept caller event P k s event (tuple_at s pick.tuple) refl (chosen_match s caller event r pick chooses case.0) h))
+
+  -- what is kept as the event finds the space
+  pub found_kept : (s : Plain) (at : ℕ) → P s → P (found_by s at)
+  found_kept s at h = k.ages (advanced s at) (k.advances s at h)
+
+  -- what these keep, each step keeps
+  pub step_kept : (s : Plain) (at : ℕ) (o : Out) (picks : List Pick) (s' : Plain) → Step s caller at event o picks s' → P s → P s'
+  step_kept s at o picks s' step h = case_kept (found_by s at) (chooser (found_by s at) caller event) o picks s' refl step (found_kept s at h)

@@ -416,11 +416,16 @@ abbrev pub least : List Asking → Option Asking
 least [] = None
 least (a ∷ rest) = Some (earlier a (least rest))
 
--- the row with that id is being asked for
+abbrev pub asked_doubt : Doubt → Doubt
+asked_doubt doubt.No = doubt.No
+asked_doubt doubt.Waiting = doubt.Asked
+asked_doubt doubt.Asked = doubt.Asked
+
+-- the row with that id, which waits, is being asked for
 abbrev pub asked_for : ℕ → Plain → Plain
 asked_for id s =
-    with_tuple id (λ t. record t { doubt = doubt.Asked })
-    (with_request id (λ r. record r { doubt = doubt.Asked }) (with_notifier id (λ n. record n { doubt = doubt.Asked }) s))
+    with_tuple id (λ t. record t { doubt = asked_doubt t.doubt })
+    (with_request id (λ r. record r { doubt = asked_doubt r.doubt }) (with_notifier id (λ n. record n { doubt = asked_doubt n.doubt }) s))
 
 abbrev pub ask : Plain → Option Asking → Outcome
 ask s None = answers s out.NotYet

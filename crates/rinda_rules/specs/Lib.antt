@@ -9,3 +9,5 @@ pub mod Fixed
 pub mod Settled
 pub mod Legal
 pub mod Full
+pub mod Laws
+pub mod Own

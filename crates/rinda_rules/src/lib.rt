@@ -9,6 +9,7 @@
 
 pub mod event;
 pub mod journal;
+pub mod laws;
 pub mod object;
 pub mod out;
 pub mod plain;

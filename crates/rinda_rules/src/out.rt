@@ -1,6 +1,9 @@
+ghost use Rattle.std.specs.Prelude.{◌≡◌, IfOk};
+
 use drb_tree::Remote;
-use drb_value::Value;
+use drb_value::{Value, copy_items};
 use sqlite_items::Items;
+use std::alloc::{AllocError, Global};
 
 /// The three flags of an object.
 ///
@@ -55,4 +58,35 @@ pub enum Out {
     Unknown,
     /// The object is of another kind or state, or another caller's.
     WrongKind,
+}
+
+impl Out {
+    /// An equal answer.
+    ///
+    /// Errors: only want of memory.
+    pub fn copy(&self, alloc: Global) -> Result<Out, AllocError>
+        ensures { IfOk result (λ out. out ≡ self.now) }
+    {
+        Ok(match self {
+            Out::Entry(id) => Out::Entry(*id),
+            Out::Reserved(id) => Out::Reserved(*id),
+            Out::Answer(value) => Out::Answer(value.copy(alloc)?),
+            Out::Parked(id) => Out::Parked(*id),
+            Out::Granted(id, value) => Out::Granted(*id, value.copy(alloc)?),
+            Out::All(values) => Out::All(copy_items(alloc, values.as_slice())?),
+            Out::Notifier(id) => Out::Notifier(*id),
+            Out::Event(value) => Out::Event(value.copy(alloc)?),
+            Out::Closed => Out::Closed,
+            Out::Expired => Out::Expired,
+            Out::Canceled => Out::Canceled,
+            Out::WouldWait => Out::WouldWait,
+            Out::NotYet => Out::NotYet,
+            Out::State(flags) => Out::State(*flags),
+            Out::Ask(id, renewer) => Out::Ask(*id, renewer.copy(alloc)?),
+            Out::Plain => Out::Plain,
+            Out::Recycled => Out::Recycled,
+            Out::Unknown => Out::Unknown,
+            Out::WrongKind => Out::WrongKind,
+        })
+    }
 }

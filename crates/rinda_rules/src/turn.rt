@@ -1,4 +1,7 @@
+ghost use Rattle.std.specs.Prelude.{◌≡◌, [], IfOk};
+
 use crate::{Event, Out};
+use std::alloc::{AllocError, Global};
 use std::marker::Model;
 
 /// A match that a turn chose: the request gets the tuple.
@@ -21,6 +24,42 @@ impl Model for Picks {
     ghost Value = { List Pick };
 
     ghost view = { λ a. a.list.items };
+}
+
+impl Picks {
+    /// No pick. Takes no memory.
+    pub fn new(alloc: Global) -> Picks
+        ensures { result ≡ [] }
+    {
+        Picks {
+            list: Vec::new(alloc),
+        }
+    }
+
+    /// The picks of a list, in its order.
+    pub fn of(list: Vec<Pick>) -> Picks
+        ensures { result ≡ list.items }
+    {
+        Picks { list }
+    }
+
+    /// The picks, in order.
+    pub fn as_slice(&self) -> &[Pick]
+        ensures { result.now ≡ self.now }
+    {
+        self.list.as_slice()
+    }
+
+    /// The same picks.
+    ///
+    /// Errors: only want of memory.
+    pub fn copy(&self, alloc: Global) -> Result<Picks, AllocError>
+        ensures { IfOk result (λ picks. picks ≡ self.now) }
+    {
+        Ok(Picks {
+            list: Vec::from_slice(alloc, self.list.as_slice())?,
+        })
+    }
 }
 
 /// One event of one caller, with what was answered and which matches were picked.

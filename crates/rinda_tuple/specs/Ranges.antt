@@ -17,10 +17,19 @@ abbrev pub field_of : List ℕ → List (List ℕ × Tree) → Option Tree
 field_of name [] = None
 field_of name (field ∷ fields) = if bytes_eq field.0 name then Some field.1 else field_of name fields
 
+-- true or false, or neither
+abbrev pub truth_at : Tree-F Tree → Option Bool
+truth_at (Tree-F.Bool b) = Some b
+truth_at _ = None
+
+-- the range with these ends, where it is known whether it leaves its end out
+abbrev pub range_to : Option Bool → Tree → Tree → Option Range
+range_to None first last = None
+range_to (Some excl) first last = Some (record { excl = excl; first = first; last = last })
+
 -- the range with these ends, where the first value is true or false
 abbrev pub range_with : Tree-F Tree → Tree → Tree → Option Range
-range_with (Tree-F.Bool excl) first last = Some (record { excl = excl; first = first; last = last })
-range_with _ first last = None
+range_with excl first last = range_to (truth_at excl) first last
 
 -- the range with these three fields, where each of them is there
 abbrev pub range_from : Option Tree → Option Tree → Option Tree → Option Range
@@ -67,16 +76,17 @@ text_before excl Tree-F.Nil x = true
 text_before excl (Tree-F.Text last) x = if excl then text_lt x last.bytes else text_le x last.bytes
 text_before excl _ x = false
 
--- a range suits an integer between its ends, a text between its ends, and nothing else
-abbrev pub in_range : Range → Tree-F Tree → Bool
-in_range r (Tree-F.Int x) = int_after (out-Tree r.first) x && int_before r.excl (out-Tree r.last) x
-in_range r (Tree-F.Text x) = text_after (out-Tree r.first) x.bytes && text_before r.excl (out-Tree r.last) x.bytes
-in_range r _ = false
+-- an integer or a text lies between the ends, and nothing else does
+abbrev pub within : Bool → Tree-F Tree → Tree-F Tree → Tree-F Tree → Bool
+within excl first last (Tree-F.Int x) = int_after first x && int_before excl last x
+within excl first last (Tree-F.Text x) = text_after first x.bytes && text_before excl last x.bytes
+within excl first last _ = false
 
--- the value is a range, and suits that value
-abbrev pub in_some_range : Option Range → Tree-F Tree → Bool
-in_some_range None x = false
-in_some_range (Some r) x = in_range r x
+-- where there is a range, the value lies between its ends
+abbrev pub in_range : Option Range → Tree-F Tree → Bool
+in_range None x = false
+in_range (Some r) x = within r.excl (out-Tree r.first) (out-Tree r.last) x
 
+-- the first value is a range that suits the second
 abbrev pub range_suits : Tree-F Tree → Tree-F Tree → Bool
-range_suits e x = in_some_range (range_of e) x
+range_suits e x = in_range (range_of e) x

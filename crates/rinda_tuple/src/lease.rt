@@ -1,9 +1,10 @@
-ghost use Rattle.std.specs.Prelude.{◌≡◌};
+ghost use Rattle.std.specs.Prelude.{◌≡◌, IfOk};
 ghost use Rattle.rinda_tuple.specs.Lives.{deadline as deadline_spec, life_at, life_of as life_of_spec};
 ghost use Rattle.drb_value.specs.View.{layer};
 
 use drb_tree::Remote;
 use drb_value::{Node, Value};
+use std::alloc::{AllocError, Global};
 
 /// How long an object of the space stays.
 ///
@@ -23,6 +24,33 @@ pub enum Life {
 pub struct Lease {
     pub life: Life,
     pub renewer: Option<Remote>,
+}
+
+impl Lease {
+    /// An equal lease.
+    ///
+    /// Errors: only want of memory.
+    pub fn copy(&self, alloc: Global) -> Result<Lease, AllocError>
+        ensures { IfOk result (λ lease. lease ≡ self.now) }
+    {
+        let renewer = copy_renewer(alloc, &self.renewer)?;
+        Ok(Lease {
+            life: self.life,
+            renewer,
+        })
+    }
+}
+
+/// An equal renewer, or nobody.
+///
+/// Errors: only want of memory.
+pub fn copy_renewer(alloc: Global, renewer: &Option<Remote>) -> Result<Option<Remote>, AllocError>
+    ensures { IfOk result (λ copied. copied ≡ renewer.now) }
+{
+    match renewer {
+        None => Ok(None),
+        Some(renewer) => Ok(Some(renewer.copy(alloc)?)),
+    }
 }
 
 /// What the life argument of a request says.

@@ -7,10 +7,14 @@
 //! plain words.
 #![tactic(auto)]
 
+mod class;
 pub mod lease;
+pub mod matching;
+mod range;
 pub mod steps;
 pub mod tuple;
 
-pub use lease::{Lease, Life, LifeArg, deadline, life_of};
+pub use lease::{Lease, Life, LifeArg, copy_renewer, deadline, life_of};
+pub use matching::{is_match, matches, suits};
 pub use steps::Steps;
 pub use tuple::{NOT_A_LIST, NotTuple, Template, Tuple, template_of, tuple_of};

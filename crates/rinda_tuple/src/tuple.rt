@@ -2,8 +2,9 @@ ghost use Rattle.std.specs.Prelude.{◌≡◌, Some, None, IfOk, IfErr};
 ghost use Rattle.rinda_tuple.specs.Lists.{items_at, items_of};
 ghost use Rattle.drb_value.specs.View.{layer};
 
-use drb_value::{Node, Value};
+use drb_value::{Node, Value, copy_items};
 use sqlite_items::Items;
+use std::alloc::{AllocError, Global};
 
 /// A tuple that is written to a space: its values in order.
 #[derive(Drop)]
@@ -15,6 +16,30 @@ pub struct Tuple {
 #[derive(Drop)]
 pub struct Template {
     pub items: Items<Value>,
+}
+
+impl Tuple {
+    /// An equal tuple.
+    ///
+    /// Errors: only want of memory.
+    pub fn copy(&self, alloc: Global) -> Result<Tuple, AllocError>
+        ensures { IfOk result (λ tuple. tuple ≡ self.now) }
+    {
+        let items = copy_items(alloc, self.items.as_slice())?;
+        Ok(Tuple { items })
+    }
+}
+
+impl Template {
+    /// An equal template.
+    ///
+    /// Errors: only want of memory.
+    pub fn copy(&self, alloc: Global) -> Result<Template, AllocError>
+        ensures { IfOk result (λ template. template ≡ self.now) }
+    {
+        let items = copy_items(alloc, self.items.as_slice())?;
+        Ok(Template { items })
+    }
 }
 
 /// A value that is no tuple and no template, handed back as it was.

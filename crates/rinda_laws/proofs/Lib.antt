@@ -1,0 +1,4 @@
+pub mod Owning
+pub mod Telling
+pub mod Staying
+pub mod Balancing

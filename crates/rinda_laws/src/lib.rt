@@ -1,0 +1,8 @@
+//! Laws of every legal history of a tuple space.
+//!
+//! They stand on the rules alone, whatever program keeps them. Each function does nothing, and its contract is the
+//! law, which `specs/` says in full.
+#![tactic(auto)]
+
+pub mod requests;
+pub mod tuples;
