@@ -17,6 +17,8 @@ mod lists;
 mod makers;
 mod names;
 mod sizes;
+#[cfg(test)]
+mod tests;
 
 pub use copies::copy_items;
 pub use drb_tree::{Code, RefId, Remote, Text};
@@ -24,7 +26,6 @@ pub use equality::same;
 pub use hashes::PairError;
 pub use names::NameError;
 pub use sqlite_items::{Boxed, Items};
-
 use std::marker::Model;
 
 /// A symbol, a class, or the name of a field: bytes that are valid UTF-8.

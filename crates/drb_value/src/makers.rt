@@ -3,7 +3,9 @@ ghost use Rattle.drb_tree.specs.Kept.{remote_class};
 ghost use Rattle.drb_tree.specs.Trees.{nil_tree, bool_tree, int_tree, sym_tree, text_tree, list_tree, hash_tree, class_tree, module_tree, object_tree, struct_tree, dumped_tree, wrapped_tree, remote_tree};
 ghost use Rattle.drb_value.specs.View.{view_of};
 
-use crate::{Boxed, Dumped, FieldList, Fields, Items, Name, Node, Pairs, Remote, Text, Value, Wrapped};
+use crate::{
+    Boxed, Dumped, FieldList, Fields, Items, Name, Node, Pairs, Remote, Text, Value, Wrapped,
+};
 use std::alloc::{AllocError, Global};
 
 impl Value {
@@ -25,56 +27,72 @@ impl Value {
     pub fn boolean(truth: bool) -> Value
         ensures { result ≡ bool_tree truth }
     {
-        Value { node: Node::Bool(truth) }
+        Value {
+            node: Node::Bool(truth),
+        }
     }
 
     /// An integer.
     pub fn int(number: i128) -> Value
         ensures { result ≡ int_tree number }
     {
-        Value { node: Node::Int(number) }
+        Value {
+            node: Node::Int(number),
+        }
     }
 
     /// A symbol.
     pub fn sym(name: Name) -> Value
         ensures { result ≡ sym_tree name }
     {
-        Value { node: Node::Sym(name) }
+        Value {
+            node: Node::Sym(name),
+        }
     }
 
     /// A text.
     pub fn text(text: Text) -> Value
         ensures { result ≡ text_tree text }
     {
-        Value { node: Node::Text(text) }
+        Value {
+            node: Node::Text(text),
+        }
     }
 
     /// A list of values, Ruby's Array.
     pub fn list(items: Items<Value>) -> Value
         ensures { result ≡ list_tree items }
     {
-        Value { node: Node::List(items) }
+        Value {
+            node: Node::List(items),
+        }
     }
 
     /// A hash.
     pub fn hash(pairs: Pairs) -> Value
         ensures { result ≡ hash_tree pairs.0 pairs.1 }
     {
-        Value { node: Node::Hash(pairs) }
+        Value {
+            node: Node::Hash(pairs),
+        }
     }
 
     /// A class, by its name.
     pub fn class(name: Name) -> Value
         ensures { result ≡ class_tree name }
     {
-        Value { node: Node::Class(name) }
+        Value {
+            node: Node::Class(name),
+        }
     }
 
     /// A module, by its name.
     pub fn module(name: Name) -> Value
         ensures { result ≡ module_tree name }
     {
-        Value { node: Node::Module(name) }
+        Value {
+            node: Node::Module(name),
+        }
     }
 
     /// An object of this class with these fields.
@@ -99,7 +117,9 @@ impl Value {
     pub fn dumped(dumped: Dumped) -> Value
         ensures { result ≡ dumped_tree dumped.0 dumped.1 dumped.2 }
     {
-        Value { node: Node::Dumped(dumped) }
+        Value {
+            node: Node::Dumped(dumped),
+        }
     }
 
     /// What its class dumped as another value.
@@ -118,7 +138,9 @@ impl Value {
     pub fn remote(remote: Remote) -> Value
         ensures { result ≡ remote_tree remote }
     {
-        Value { node: Node::Remote(remote) }
+        Value {
+            node: Node::Remote(remote),
+        }
     }
 }
 

@@ -1,7 +1,6 @@
 -- The table of classes: which values the name of a class or module suits. docs/SPACE.md, Matching.
 use Rattle.std.specs.Prelude.{ℕ, Bool, true, false, not, ◌||◌, List, [], ◌∷◌, bytes_eq, codes, if◌then◌else◌}
 use Rattle.drb_tree.specs.declared.Tree.{Tree}
-use Rattle.drb_tree.specs.declared.Tree.TheViews.{out-Tree}
 use Rattle.drb_tree.specs.declared.Tree.TheOpen.{Tree-F}
 
 -- one test for each kind of value

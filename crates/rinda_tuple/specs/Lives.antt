@@ -1,6 +1,6 @@
 -- How long an object stays: the deadline that a life gives, and the life that an argument of a request says.
 -- docs/SPACE.md, Lives.
-use Rattle.std.specs.Prelude.{ℕ, ◌+◌, ◌-◌, ◌*◌, ◌^◌, nat_le, ℤ, pos, nat_abs, int_le, Option, Some, None, if◌then◌else◌}
+use Rattle.std.specs.Prelude.{ℕ, ◌+◌, ◌-◌, ◌*◌, ◌^◌, nat_le, pos, nat_abs, int_le, Option, Some, None, if◌then◌else◌}
 use Rattle.drb_tree.specs.declared.Tree.{Tree}
 use Rattle.drb_tree.specs.declared.Tree.TheViews.{out-Tree}
 use Rattle.drb_tree.specs.declared.Tree.TheOpen.{Tree-F}

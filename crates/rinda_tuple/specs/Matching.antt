@@ -1,5 +1,5 @@
 -- When a template matches a tuple. docs/SPACE.md, Matching.
-use Rattle.std.specs.Prelude.{ℕ, Bool, true, false, ◌&&◌, ◌||◌, List, [], ◌∷◌}
+use Rattle.std.specs.Prelude.{Bool, true, false, ◌&&◌, ◌||◌, List, [], ◌∷◌}
 use Rattle.drb_tree.specs.declared.Tree.{Tree}
 use Rattle.drb_tree.specs.declared.Tree.TheViews.{out-Tree}
 use Rattle.drb_tree.specs.declared.Tree.TheOpen.{Tree-F}

@@ -1,5 +1,5 @@
 use super::*;
-use crate::lease::{Lease, Life, LifeArg, deadline, life_of};
+use crate::lease::{Life, LifeArg, deadline, life_of};
 use crate::tuple::{NOT_A_LIST, template_of, tuple_of};
 use drb_tree::{Code, RefId, Remote, Text};
 use drb_value::{Dumped, FieldList, Name, Pairs};
@@ -15,20 +15,17 @@ fn text(alloc: Global, s: &str, code: Code) -> Result<Value, Fail> {
     Ok(Value::text(Text::of(alloc, s.as_bytes(), code)?))
 }
 
-fn utf8(alloc: Global, s: &str) -> Result<Value, Fail> {
-    text(alloc, s, Code::Utf8)
+fn object(alloc: Global, class: &str) -> Result<Value, Fail> {
+    Ok(Value::object(name(alloc, class)?, FieldList::new(alloc)))
 }
 
-fn sym(alloc: Global, s: &str) -> Result<Value, Fail> {
-    Ok(Value::sym(name(alloc, s)?))
+fn structure(alloc: Global, class: &str) -> Result<Value, Fail> {
+    Ok(Value::structure(name(alloc, class)?, FieldList::new(alloc)))
 }
 
-fn class(alloc: Global, s: &str) -> Result<Value, Fail> {
-    Ok(Value::class(name(alloc, s)?))
-}
-
-fn module(alloc: Global, s: &str) -> Result<Value, Fail> {
-    Ok(Value::module(name(alloc, s)?))
+fn dumped(alloc: Global, class: &str) -> Result<Value, Fail> {
+    let class = name(alloc, class)?;
+    Ok(Value::dumped(Dumped::of(class, Items::new(alloc), FieldList::new(alloc))))
 }
 
 fn remote(alloc: Global) -> Result<Value, Fail> {
@@ -37,12 +34,6 @@ fn remote(alloc: Global) -> Result<Value, Fail> {
         uri,
         id: RefId::Number(7),
     }))
-}
-
-fn one(alloc: Global, item: Value) -> Result<Items<Value>, Fail> {
-    let mut items = Items::new(alloc);
-    items.push(item)?;
-    Ok(items)
 }
 
 fn range(alloc: Global, first: Value, last: Value, excl: bool) -> Result<Value, Fail> {
@@ -55,53 +46,51 @@ fn range(alloc: Global, first: Value, last: Value, excl: bool) -> Result<Value, 
 
 /// A value of each kind, by a letter.
 fn kind(alloc: Global, letter: char) -> Result<Value, Fail> {
-    Ok(match letter {
-        'n' => Value::nil(),
-        't' => Value::boolean(true),
-        'f' => Value::boolean(false),
-        'i' => Value::int(-7),
-        's' => sym(alloc, "b")?,
-        'x' => utf8(alloc, "b")?,
-        'l' => Value::list(Items::new(alloc)),
-        'h' => Value::hash(Pairs::new(alloc)),
-        'c' => class(alloc, "Proc")?,
-        'm' => module(alloc, "Kernel")?,
-        'o' => Value::object(name(alloc, "Printer")?, FieldList::new(alloc)),
-        'S' => Value::structure(name(alloc, "Printer")?, FieldList::new(alloc)),
-        'd' => Value::dumped(Dumped::of(
-            name(alloc, "Printer")?,
-            Items::new(alloc),
-            FieldList::new(alloc),
-        )),
-        'w' => Value::wrapped(alloc, name(alloc, "Printer")?, Value::nil())?,
-        'r' => remote(alloc)?,
-        'R' => range(alloc, Value::int(1), Value::nil(), false)?,
-        _ => Value::object(name(alloc, "Other")?, FieldList::new(alloc)),
-    })
+    match letter {
+        'n' => Ok(Value::nil()),
+        't' => Ok(Value::boolean(true)),
+        'f' => Ok(Value::boolean(false)),
+        'i' => Ok(Value::int(-7)),
+        's' => Ok(Value::sym(name(alloc, "b")?)),
+        'x' => text(alloc, "b", Code::Utf8),
+        'b' => text(alloc, "b", Code::Binary),
+        'l' => Ok(Value::list(Items::new(alloc))),
+        'h' => Ok(Value::hash(Pairs::new(alloc))),
+        'c' => Ok(Value::class(name(alloc, "Proc")?)),
+        'm' => Ok(Value::module(name(alloc, "Proc")?)),
+        'o' => object(alloc, "Printer"),
+        'S' => structure(alloc, "Printer"),
+        'd' => dumped(alloc, "Printer"),
+        'w' => Ok(Value::wrapped(alloc, name(alloc, "Printer")?, Value::nil())?),
+        'r' => remote(alloc),
+        'R' => range(alloc, Value::int(1), Value::nil(), false),
+        'I' => structure(alloc, "Integer"),
+        _ => object(alloc, "Integer"),
+    }
 }
 
-/// The letters of the values that the element suits.
-fn suited(alloc: Global, e: &Value) -> Result<String, Fail> {
-    let mut out = String::new(alloc);
-    for letter in "ntfisxlhcmoSdwrR".chars() {
-        if suits(e, &kind(alloc, letter)?) {
-            out.push(letter)?;
-        }
-    }
-    Ok(out)
+fn class_suits(alloc: Global, class: &str, letter: char) -> Result<bool, Fail> {
+    let e = Value::class(name(alloc, class)?);
+    let x = kind(alloc, letter)?;
+    Ok(suits(&e, &x))
+}
+
+fn module_suits(alloc: Global, module: &str, letter: char) -> Result<bool, Fail> {
+    let e = Value::module(name(alloc, module)?);
+    let x = kind(alloc, letter)?;
+    Ok(suits(&e, &x))
 }
 
 #[test]
 fn each_line_of_the_class_table_suits_its_kinds_and_no_other(rt: HostRuntime) -> Result<(), Fail> {
-    let alloc = rt.alloc();
-    for (of, want) in [
-        ("Object", "ntfisxlhcmoSdwrR"),
-        ("BasicObject", "ntfisxlhcmoSdwrR"),
-        ("Kernel", "ntfisxlhcmoSdwrR"),
+    for (of, wanted) in [
+        ("Object", "ntfisxlhcmoSdwrRIO"),
+        ("BasicObject", "ntfisxlhcmoSdwrRIO"),
+        ("Kernel", "ntfisxlhcmoSdwrRIO"),
         ("NilClass", "n"),
         ("TrueClass", "t"),
         ("FalseClass", "f"),
-        ("Integer", "i"),
+        ("Integer", "iI"),
         ("Numeric", "i"),
         ("Symbol", "s"),
         ("String", "x"),
@@ -109,41 +98,52 @@ fn each_line_of_the_class_table_suits_its_kinds_and_no_other(rt: HostRuntime) ->
         ("Hash", "h"),
         ("Class", "c"),
         ("Module", "cm"),
-        ("Struct", "S"),
+        ("Struct", "SI"),
         ("DRb::DRbObject", "r"),
         ("Comparable", "isx"),
-        ("Enumerable", "lhSR"),
+        ("Enumerable", "lhSRI"),
         ("Printer", "oSdw"),
         ("Range", "R"),
         ("Float", ""),
     ] {
-        assert_eq!(rt;
-            suited(alloc, &class(alloc, of)?)?.as_str(),
-            want,
-            "class {of}"
-        );
-        assert_eq!(rt;
-            suited(alloc, &module(alloc, of)?)?.as_str(),
-            want,
-            "module {of}"
-        );
+        for letter in "ntfisxlhcmoSdwrRIO".chars() {
+            let want = wanted.chars().any(|w| w == letter);
+            assert_eq!(rt;
+                class_suits(rt.alloc(), of, letter)?,
+                want,
+                "class {of} at {letter}"
+            );
+            assert_eq!(rt;
+                module_suits(rt.alloc(), of, letter)?,
+                want,
+                "module {of} at {letter}"
+            );
+        }
     }
     Ok(())
 }
 
-#[test]
-fn a_struct_suits_its_own_class_also_where_the_table_has_it(rt: HostRuntime) -> Result<(), Fail> {
-    let alloc = rt.alloc();
-    let listed = Value::structure(name(alloc, "Integer")?, FieldList::new(alloc));
-    assert!(rt; suits(&class(alloc, "Integer")?, &listed));
-    let listed = Value::object(name(alloc, "Integer")?, FieldList::new(alloc));
-    assert!(rt; !suits(&class(alloc, "Integer")?, &listed));
-    Ok(())
+/// The integer, or nil.
+fn end(end: Option<i128>) -> Value {
+    match end {
+        Some(end) => Value::int(end),
+        None => Value::nil(),
+    }
+}
+
+fn in_range(
+    alloc: Global,
+    first: Option<i128>,
+    last: Option<i128>,
+    excl: bool,
+    x: i128,
+) -> Result<bool, Fail> {
+    let e = range(alloc, end(first), end(last), excl)?;
+    Ok(suits(&e, &Value::int(x)))
 }
 
 #[test]
-fn a_range_suits_what_lies_between_its_ends(rt: HostRuntime) -> Result<(), Fail> {
-    let alloc = rt.alloc();
+fn a_range_of_integers_suits_what_lies_between_its_ends(rt: HostRuntime) -> Result<(), Fail> {
     for (first, last, excl, x, want) in [
         (Some(1), Some(5), false, 5, true),
         (Some(1), Some(5), false, 6, false),
@@ -157,12 +157,21 @@ fn a_range_suits_what_lies_between_its_ends(rt: HostRuntime) -> Result<(), Fail>
         (Some(1), None, false, 0, false),
         (None, None, true, 0, true),
     ] {
-        let first = first.map_or(Value::nil(), Value::int);
-        let last = last.map_or(Value::nil(), Value::int);
-        let e = range(alloc, first, last, excl)?;
-        assert_eq!(rt; suits(&e, &Value::int(x)), want, "at {x}");
-        assert!(rt; !suits(&e, &sym(alloc, "b")?));
+        assert_eq!(rt; in_range(rt.alloc(), first, last, excl, x)?, want, "at {x}");
     }
+    Ok(())
+}
+
+fn in_texts(alloc: Global, excl: bool, x: &str, code: Code) -> Result<bool, Fail> {
+    let first = text(alloc, "b", Code::Utf8)?;
+    let last = text(alloc, "d", Code::Utf8)?;
+    let e = range(alloc, first, last, excl)?;
+    let x = text(alloc, x, code)?;
+    Ok(suits(&e, &x))
+}
+
+#[test]
+fn a_range_of_texts_goes_by_their_bytes(rt: HostRuntime) -> Result<(), Fail> {
     for (excl, x, want) in [
         (false, "b", true),
         (false, "bc", true),
@@ -172,80 +181,113 @@ fn a_range_suits_what_lies_between_its_ends(rt: HostRuntime) -> Result<(), Fail>
         (false, "a", false),
         (false, "da", false),
     ] {
-        let e = range(alloc, utf8(alloc, "b")?, utf8(alloc, "d")?, excl)?;
-        assert_eq!(rt; suits(&e, &utf8(alloc, x)?), want, "at {x}");
-        assert!(rt; !suits(&e, &Value::int(1)));
+        assert_eq!(rt; in_texts(rt.alloc(), excl, x, Code::Utf8)?, want, "at {x}");
+        assert_eq!(rt;
+            in_texts(rt.alloc(), excl, x, Code::Binary)?,
+            want,
+            "at {x}"
+        );
     }
-    let below = range(alloc, Value::nil(), text(alloc, "d", Code::Binary)?, false)?;
-    assert!(rt; suits(&below, &utf8(alloc, "a")?));
-    let above = range(alloc, utf8(alloc, "d")?, Value::nil(), false)?;
-    assert!(rt; !suits(&above, &utf8(alloc, "a")?));
     Ok(())
 }
 
-/// Whether the template of these elements matches the tuple of these values.
-fn matched(t: Items<Value>, u: Items<Value>) -> bool {
-    is_match(&Template { items: t }, &Tuple { items: u })
+fn mixed(alloc: Global, letter: char) -> Result<bool, Fail> {
+    let e = range(alloc, Value::nil(), text(alloc, "d", Code::Utf8)?, false)?;
+    let x = kind(alloc, letter)?;
+    Ok(suits(&e, &x))
+}
+
+#[test]
+fn a_range_that_ends_with_a_text_suits_texts_alone(rt: HostRuntime) -> Result<(), Fail> {
+    assert!(rt; mixed(rt.alloc(), 'x')?);
+    for letter in "ntfislhcmoSdwr".chars() {
+        assert!(rt; !mixed(rt.alloc(), letter)?);
+    }
+    Ok(())
+}
+
+fn one(alloc: Global, item: Value) -> Result<Items<Value>, Fail> {
+    let mut items = Items::new(alloc);
+    items.push(item)?;
+    Ok(items)
+}
+
+/// Whether `[Integer, 1..5, nil]` matches `[7, second, :x]`.
+fn triple(alloc: Global, second: i128) -> Result<bool, Fail> {
+    let mut t = one(alloc, Value::class(name(alloc, "Integer")?))?;
+    t.push(range(alloc, Value::int(1), Value::int(5), false)?)?;
+    t.push(Value::nil())?;
+    let mut u = one(alloc, Value::int(7))?;
+    u.push(Value::int(second))?;
+    u.push(Value::sym(name(alloc, "x")?))?;
+    Ok(is_match(&Template { items: t }, &Tuple { items: u }))
+}
+
+/// Whether the template of these elements matches the tuple of these values, each of one letter or none.
+fn matched(alloc: Global, t: &str, u: &str) -> Result<bool, Fail> {
+    let mut es = Items::new(alloc);
+    for letter in t.chars() {
+        es.push(kind(alloc, letter)?)?;
+    }
+    let mut xs = Items::new(alloc);
+    for letter in u.chars() {
+        xs.push(kind(alloc, letter)?)?;
+    }
+    Ok(is_match(&Template { items: es }, &Tuple { items: xs }))
+}
+
+/// Whether `[[nil]]` matches `[[1]]`.
+fn nested(alloc: Global) -> Result<bool, Fail> {
+    let t = one(alloc, Value::list(one(alloc, Value::nil())?))?;
+    let u = one(alloc, Value::list(one(alloc, Value::int(1))?))?;
+    Ok(is_match(&Template { items: t }, &Tuple { items: u }))
 }
 
 #[test]
 fn a_template_matches_a_tuple_of_its_size_item_by_item(rt: HostRuntime) -> Result<(), Fail> {
-    let alloc = rt.alloc();
-    for (second, want) in [(5, true), (6, false)] {
-        let mut t = one(alloc, class(alloc, "Integer")?)?;
-        t.push(range(alloc, Value::int(1), Value::int(5), false)?)?;
-        t.push(Value::nil())?;
-        let mut u = one(alloc, Value::int(7))?;
-        u.push(Value::int(second))?;
-        u.push(sym(alloc, "x")?)?;
-        assert_eq!(rt; matched(t, u), want, "at {second}");
+    assert!(rt; triple(rt.alloc(), 5)?);
+    assert!(rt; !triple(rt.alloc(), 6)?);
+    for (t, u, want) in [
+        ("", "", true),
+        ("n", "", false),
+        ("", "n", false),
+        ("nn", "i", false),
+        ("x", "b", true),
+        ("no", "io", true),
+        ("no", "oi", false),
+    ] {
+        assert_eq!(rt; matched(rt.alloc(), t, u)?, want, "{t} and {u}");
     }
-    assert!(rt; matched(Items::new(alloc), Items::new(alloc)));
-    assert!(rt; !matched(one(alloc, Value::nil())?, Items::new(alloc)));
-    assert!(rt; !matched(Items::new(alloc), one(alloc, Value::nil())?));
-    let nested = one(alloc, Value::list(one(alloc, Value::nil())?))?;
-    assert!(rt; !matched(nested, one(alloc, Value::list(one(alloc, Value::int(1))?))?));
-    let in_utf8 = one(alloc, utf8(alloc, "a")?)?;
-    assert!(rt; matched(in_utf8, one(alloc, text(alloc, "a", Code::Binary)?)?));
-    assert!(rt;
-        matched(
-            one(alloc, class(alloc, "Comparable")?)?,
-            one(alloc, utf8(alloc, "b")?)?
-        )
-    );
-    assert!(rt;
-        matched(
-            one(alloc, class(alloc, "Printer")?)?,
-            one(alloc, kind(alloc, 'o')?)?
-        )
-    );
+    assert!(rt; !nested(rt.alloc())?);
     Ok(())
+}
+
+fn refused_tuple(alloc: Global, letter: char) -> Result<bool, Fail> {
+    let v = kind(alloc, letter)?;
+    let again = v.copy(alloc)?;
+    Ok(match tuple_of(v) {
+        Ok(_) => false,
+        Err(e) => e.why == NOT_A_LIST && same(&e.value, &again),
+    })
+}
+
+fn refused_template(alloc: Global, letter: char) -> Result<bool, Fail> {
+    let v = kind(alloc, letter)?;
+    let again = v.copy(alloc)?;
+    Ok(match template_of(v) {
+        Ok(_) => false,
+        Err(e) => e.why == 1 && same(&e.value, &again),
+    })
 }
 
 #[test]
 fn only_a_list_is_a_tuple_and_else_the_value_comes_back(rt: HostRuntime) -> Result<(), Fail> {
-    let alloc = rt.alloc();
-    let made = tuple_of(Value::list(one(alloc, Value::int(3))?));
-    assert!(rt; made.is_ok_and(|u| u.items.len() == 1));
-    let made = template_of(Value::list(Items::new(alloc)));
-    assert!(rt; made.is_ok_and(|t| t.items.is_empty()));
-    let refused = tuple_of(Value::int(3));
-    assert!(rt; refused.is_err_and(|e| e.why == NOT_A_LIST && same(&e.value, &Value::int(3))));
-    let refused = template_of(kind(alloc, 'h')?);
-    assert!(rt; refused.is_err_and(|e| e.why == 1 && matches!(e.value.node, Node::Hash(_))));
-    let tuple = Tuple {
-        items: one(alloc, Value::int(3))?,
-    };
-    assert!(rt;
-        same(
-            &Value::list(tuple.copy(alloc)?.items),
-            &Value::list(tuple.items)
-        )
-    );
-    let template = Template {
-        items: one(alloc, Value::nil())?,
-    };
-    assert!(rt; template.copy(alloc)?.items.len() == 1);
+    for letter in "ntfisxhcmoSdwr".chars() {
+        assert!(rt; refused_tuple(rt.alloc(), letter)?);
+        assert!(rt; refused_template(rt.alloc(), letter)?);
+    }
+    assert!(rt; !refused_tuple(rt.alloc(), 'l')?);
+    assert!(rt; !refused_template(rt.alloc(), 'l')?);
     Ok(())
 }
 
@@ -270,19 +312,21 @@ fn a_life_gives_its_deadline(rt: HostRuntime) {
     }
 }
 
+fn life_at(alloc: Global, letter: char) -> Result<LifeArg, Fail> {
+    Ok(life_of(&kind(alloc, letter)?))
+}
+
 #[test]
 fn an_argument_says_its_life(rt: HostRuntime) -> Result<(), Fail> {
-    let alloc = rt.alloc();
-    assert_eq!(rt; life_of(&Value::nil()), LifeArg::Known(Life::Never));
-    assert_eq!(rt; life_of(&Value::boolean(true)), LifeArg::Known(Life::Gone));
-    assert_eq!(rt; life_of(&Value::boolean(false)), LifeArg::Known(Life::Gone));
-    assert_eq!(rt; life_of(&Value::int(-3)), LifeArg::Known(Life::Seconds(-3)));
-    assert_eq!(rt; life_of(&remote(alloc)?), LifeArg::Renewer);
-    assert_eq!(rt; life_of(&utf8(alloc, "9")?), LifeArg::Known(Life::Gone));
-    let lease = Lease {
-        life: Life::Seconds(9),
-        renewer: None,
-    };
-    assert!(rt; lease.copy(alloc)?.life == Life::Seconds(9));
+    for (letter, want) in [
+        ('n', LifeArg::Known(Life::Never)),
+        ('t', LifeArg::Known(Life::Gone)),
+        ('f', LifeArg::Known(Life::Gone)),
+        ('i', LifeArg::Known(Life::Seconds(-7))),
+        ('r', LifeArg::Renewer),
+        ('x', LifeArg::Known(Life::Gone)),
+    ] {
+        assert_eq!(rt; life_at(rt.alloc(), letter)?, want, "at {letter}");
+    }
     Ok(())
 }
