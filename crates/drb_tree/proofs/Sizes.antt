@@ -1,5 +1,5 @@
 -- The depth and the nodes of a value, form by form.
-use Rattle.std.specs.Prelude.{ℕ, ◌≡◌, ◌+◌, max, List, map, Option, None, Some, option_map}
+use Rattle.std.specs.Prelude.{ℕ, ◌≡◌, ◌+◌, List, map, Option, None, Some}
 use Rattle.drb_tree.specs.declared.Tree.{Tree}
 use Rattle.drb_tree.specs.declared.Tree.TheViews.{roll-Tree}
 use Rattle.drb_tree.specs.declared.Tree.TheOpen.{Tree-F}

@@ -1,5 +1,5 @@
 -- What a node says of the tree that it is.
-use Rattle.std.proofs.Common.{◌≡◌, ℕ, Bool, sym, ◌∙◌, ap}
+use Rattle.std.proofs.Common.{◌≡◌, ℕ, sym, ◌∙◌, ap}
 use Rattle.drb_tree.specs.declared.Tree.{Tree}
 use Rattle.drb_tree.specs.declared.Tree.TheFolds.{map-Tree}
 use Rattle.drb_tree.specs.Same.{same}

@@ -1,7 +1,5 @@
 use Rattle.std.proofs.Common.{ℕ, ◌≤◌, ◌+◌, ◌*◌, List, [], ◌∷◌, map, Some, None, Option, arith, max}
 use Rattle.drb_tree.specs.declared.Tree.{Tree}
-use Rattle.drb_tree.specs.declared.Tree.TheViews.{roll-Tree}
-use Rattle.drb_tree.specs.declared.Tree.TheOpen as T
 use Rattle.drb_tree.specs.Sizes as W
 use Rattle.drb_tree.proofs.Sizes as L
 use Rattle.drb_value.specs.declared.Node.{Node}

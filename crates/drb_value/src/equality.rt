@@ -6,8 +6,8 @@ use crate::{Dumped, FieldList, Fields, Name, Node, Pairs, Value, Wrapped};
 
 /// Whether two values are the same.
 ///
-/// Takes time in proportion to the smaller value; two hashes are compared pair by pair, each with each. The default of
-/// a hash is not looked at, the order of its pairs and of an object's fields neither.
+/// Takes time in proportion to the values, except that the pairs of two hashes, and the fields of two objects, are
+/// compared each with each. The default of a hash is not looked at, nor the order of its pairs or of an object's fields.
 /// Source: Ruby's `eql?` and `==`; docs/MARSHAL.md, Equality.
 #[cycle(same)]
 pub fn same(a: &Value, b: &Value) -> bool

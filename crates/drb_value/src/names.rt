@@ -31,7 +31,7 @@ impl Name {
     /// A name of a copy of these bytes.
     ///
     /// Errors: `NotUtf8` exactly where the bytes are not UTF-8; `Memory`.
-    /// Source: docs/MARSHAL.md, Symbols.
+    /// Source: docs/MARSHAL.md, Values.
     pub fn of(alloc: Global, bytes: &[u8]) -> Result<Name, NameError>
         ensures value { IfOk result (λ name. name ≡ bytes.now) }
         ensures not_utf8 { (result ≡ Err NameError.NotUtf8) ↔ (IsUtf8 bytes.now → ⊥) }

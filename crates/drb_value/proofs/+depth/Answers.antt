@@ -1,7 +1,7 @@
-use Rattle.std.proofs.Common.{ℕ, ◌+◌, List, arith, ap}
+use Rattle.std.proofs.Common.{ℕ, List, arith, ap}
 use Rattle.drb_tree.specs.declared.Tree.{Tree}
-use Rattle.drb_tree.specs.Sizes.{depth, pairs_depth, fields_depth}
-use Rattle.drb_value.proofs.Measures.{list_size, pairs_size, fields_size, hash_in, list_in, object_in, struct_in, dumped_in, wrapped_in, pairs_in, fields_in, item_in, pair_in, field_in}
+use Rattle.drb_tree.specs.Sizes.{depth, fields_depth}
+use Rattle.drb_value.proofs.Measures.{list_size, hash_in, list_in, object_in, struct_in, dumped_in, wrapped_in, item_in}
 use Rattle.drb_value.proofs.Nodes.{depth_at, depth_view}
 use Rattle.drb_value.proofs.+depth.Goals as goal
 

@@ -1,7 +1,7 @@
 use Rattle.std.proofs.Common.{ℕ, ◌+◌, List, map, arith, ap}
 use Rattle.drb_tree.specs.declared.Tree.{Tree}
-use Rattle.drb_tree.specs.Sizes.{depth, pairs_depth, fields_depth, nodes, heavy, total_fields}
-use Rattle.drb_value.proofs.Measures.{list_size, pairs_size, fields_size, hash_in, list_in, object_in, struct_in, dumped_in, wrapped_in, pairs_in, fields_in, item_in, pair_in, field_in}
+use Rattle.drb_tree.specs.Sizes.{depth, fields_depth, nodes, heavy, total_fields}
+use Rattle.drb_value.proofs.Measures.{list_size, hash_in, list_in, object_in, struct_in, dumped_in, wrapped_in, item_in}
 use Rattle.drb_value.proofs.Nodes.{nodes_at, nodes_view}
 use Rattle.drb_value.proofs.+nodes.Goals as goal
 
