@@ -10,12 +10,10 @@ ghost use Rattle.std.specs.Prelude.{◌≡◌, ◌^◌, ◌<◌};
 use drb_monitor::Machine;
 use drb_monitor_tests::{Account, race};
 use std::alloc::Global;
-use std::env;
-use std::io;
 use std::sync::{Mutex, Wait};
-use std::thread;
 use std::thread::Threads;
 use std::time::Instant;
+use std::{env, io, thread};
 
 // How many turns are made in one run, by all threads together.
 const TURNS: u64 = 200_000;
@@ -46,7 +44,8 @@ fn race_locked<R: Threads + Wait + Sync>(
         alloc,
         threads as usize,
         &|i: usize| -> u64 { pay_locked(rt, shared, i as u64, count) },
-    ).ok()?;
+    )
+    .ok()?;
     Some(mutex.into_inner())
 }
 
@@ -88,7 +87,11 @@ fn main(rt: HostRuntime) -> io::Result<()> {
     for threads in [1u64, 2, 4] {
         let (entered, locked) = measure(&rt, threads)?;
         let ratio = entered.saturating_mul(100) / locked.max(1);
-        println!(rt; "threads {threads}: enter {entered} ns, mutex {locked} ns, ratio {}.{:02}", ratio / 100, ratio % 100)?;
+        println!(rt;
+            "threads {threads}: enter {entered} ns, mutex {locked} ns, ratio {}.{:02}",
+            ratio / 100,
+            ratio % 100
+        )?;
     }
     Ok(())
 }
