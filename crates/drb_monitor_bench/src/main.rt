@@ -12,7 +12,7 @@ use drb_monitor_tests::{Account, race};
 use std::alloc::Global;
 use std::sync::{Mutex, Wait};
 use std::thread::Threads;
-use std::time::Instant;
+use std::time::{Clock, Instant};
 use std::{env, io, thread};
 
 // How many turns are made in one run, by all threads together.
@@ -50,7 +50,11 @@ fn race_locked<R: Threads + Wait + Sync>(
 }
 
 // The least nanoseconds of one turn over all runs: at the monitor, and under the mutex.
-fn measure(rt: &HostRuntime, threads: u64) -> io::Result<(u64, u64)>
+fn measure<R: Threads + Wait + Clock + Sync>(
+    rt: &R,
+    alloc: Global,
+    threads: u64,
+) -> io::Result<(u64, u64)>
     requires { (0 < threads) × (threads < 2 ^ 32) }
 {
     let count = TURNS / threads;
@@ -58,14 +62,14 @@ fn measure(rt: &HostRuntime, threads: u64) -> io::Result<(u64, u64)>
     let mut locked = u64::MAX;
     for _ in 0..RUNS {
         let start = Instant::now(rt)?;
-        let made = race(rt, rt.alloc(), threads, count);
-        let spent = start.elapsed(rt)?.as_nanos() as u64;
+        let made = race(rt, alloc, threads, count);
+        let spent = u64::try_from(start.elapsed(rt)?.as_nanos()).unwrap_or(u64::MAX);
         if made.is_some() {
             entered = entered.min(spent / TURNS);
         }
         let start = Instant::now(rt)?;
-        let made = race_locked(rt, rt.alloc(), threads, count);
-        let spent = start.elapsed(rt)?.as_nanos() as u64;
+        let made = race_locked(rt, alloc, threads, count);
+        let spent = u64::try_from(start.elapsed(rt)?.as_nanos()).unwrap_or(u64::MAX);
         if made.is_some() {
             locked = locked.min(spent / TURNS);
         }
@@ -85,7 +89,7 @@ fn main(rt: HostRuntime) -> io::Result<()> {
         return Ok(());
     }
     for threads in [1u64, 2, 4] {
-        let (entered, locked) = measure(&rt, threads)?;
+        let (entered, locked) = measure(&rt, rt.alloc(), threads)?;
         let ratio = entered.saturating_mul(100) / locked.max(1);
         println!(rt;
             "threads {threads}: enter {entered} ns, mutex {locked} ns, ratio {}.{:02}",
