@@ -81,7 +81,7 @@ takes-deleted id (t ∷ ts) = grind (arith, takes-deleted id ts)
 writes-push : (id : ℕ) (es : List Raised) (e : Raised) → writes id (es ++ e ∷ []) ≡ writes id es + cond (is_write e.what && e.id == id) 1 0
 writes-push id es e = grind (arith, count_append (λ (e : Raised). is_write e.what && e.id == id) es (e ∷ []))
 
-takes-push : (id : ℕ) (es : List Raised) (e : Raised) → takes id (es ++ e ∷ []) ≡ takes id es + cond (is_take e.what && e.id == id) 1 0
+pub takes-push : (id : ℕ) (es : List Raised) (e : Raised) → takes id (es ++ e ∷ []) ≡ takes id es + cond (is_take e.what && e.id == id) 1 0
 takes-push id es e = grind (arith, count_append (λ (e : Raised). is_take e.what && e.id == id) es (e ∷ []))
 
 deletes-push : (id : ℕ) (es : List Raised) (e : Raised) → deletes id (es ++ e ∷ []) ≡ deletes id es + cond (is_delete e.what && e.id == id) 1 0

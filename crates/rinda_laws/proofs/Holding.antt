@@ -158,12 +158,12 @@ read_grip value ts r e = grind (arith, nat_tests)
 leased_grip : (f : Request → Request) → LeasesRequest f → (ts : List Entry) (r : Request) → holds_granted ts r.id r.state ≡ true → holds_granted ts (f r).id (f r).state ≡ true
 leased_grip f k ts r e = rw (k.id r, k.state r) e
 
-all_changed_both : {R : Type 0} (p p' : R → Bool) (key : R → ℕ) (id : ℕ) (f : R → R) (xs : List R) → ((x : R) → key x ≡ id → p' (f x) ≡ true) → ((x : R) → p x ≡ true → p' x ≡ true) → list_all p xs ≡ true → list_all p' (changed key id f xs) ≡ true
+pub all_changed_both : {R : Type 0} (p p' : R → Bool) (key : R → ℕ) (id : ℕ) (f : R → R) (xs : List R) → ((x : R) → key x ≡ id → p' (f x) ≡ true) → ((x : R) → p x ≡ true → p' x ≡ true) → list_all p xs ≡ true → list_all p' (changed key id f xs) ≡ true
 all_changed_both p p' key id f [] here other e = refl
 all_changed_both p p' key id f (x ∷ xs) here other e = grind (arith, nat_tests, here x, other x, all_changed_both p p' key id f xs here other)
 
 -- the tuples after a Settle are those before, but for the one
-settled_else : (ok : Bool) (tuple : ℕ) (o : Option Entry) (s : Plain) → tuple_at s tuple ≡ o → (u : ℕ) → u ≢ tuple → row_of (λ t. t.id) u (settle_tuple ok o s).tuples ≡ row_of (λ t. t.id) u s.tuples
+pub settled_else : (ok : Bool) (tuple : ℕ) (o : Option Entry) (s : Plain) → tuple_at s tuple ≡ o → (u : ℕ) → u ≢ tuple → row_of (λ t. t.id) u (settle_tuple ok o s).tuples ≡ row_of (λ t. t.id) u s.tuples
 settled_else ok tuple None s e u ne = refl
 settled_else true tuple (Some t) s e u ne = row_without (λ (t : Entry). t.id) t.id u s.tuples (λ same. ne (same ∙ row_has_id (λ (t : Entry). t.id) tuple s.tuples t e))
 settled_else false tuple (Some t) s e u ne = by_mark t.marked
@@ -185,10 +185,10 @@ one_holds (Some t) a b x y = one_holder t.holder a b x y
 
 -- another request than the one that settles holds another tuple
 else_grip : (ts ts' : List Entry) (tuple settler : ℕ) → ((u : ℕ) → u ≢ tuple → row_of (λ t. t.id) u ts' ≡ row_of (λ t. t.id) u ts) → is_held_by settler (row_of (λ t. t.id) tuple ts) ≡ true → (id : ℕ) (st : RequestState) → id ≢ settler → holds_granted ts id st ≡ true → holds_granted ts' id st ≡ true
-else_grip ts ts' tuple settler else held id state.Reserved ne e = refl
-else_grip ts ts' tuple settler else held id state.Parked ne e = refl
-else_grip ts ts' tuple settler else held id (state.Answered o) ne e = refl
-else_grip ts ts' tuple settler else held id (state.Granted u) ne e = by_test (u == tuple) refl
+else_grip ts ts' tuple settler others held id state.Reserved ne e = refl
+else_grip ts ts' tuple settler others held id state.Parked ne e = refl
+else_grip ts ts' tuple settler others held id (state.Answered o) ne e = refl
+else_grip ts ts' tuple settler others held id (state.Granted u) ne e = by_test (u == tuple) refl
   where
     same : (a b : ℕ) → a == b ≡ true → a ≡ b
     same a b e = grind (arith, nat_tests)
@@ -198,7 +198,7 @@ else_grip ts ts' tuple settler else held id (state.Granted u) ne e = by_test (u 
 
     by_test : (b : Bool) → u == tuple ≡ b → is_held_by id (row_of (λ t. t.id) u ts') ≡ true
     by_test true is = absurd (ne (one_holds (row_of (λ t. t.id) tuple ts) id settler (subst (λ (i : ℕ). is_held_by id (row_of (λ t. t.id) i ts) ≡ true) (same u tuple is) e) held))
-    by_test false is = ap (is_held_by id) (else u (other u tuple is)) ∙ e
+    by_test false is = ap (is_held_by id) (others u (other u tuple is)) ∙ e
 
 not_same : (a b : ℕ) → not (a == b) ≡ true → a ≢ b
 not_same a b e same = grind (arith, nat_tests)
