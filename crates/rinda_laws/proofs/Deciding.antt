@@ -1,8 +1,6 @@
 -- When Expired and Canceled are answered.
-use Rattle.std.proofs.Common.{◌≡◌, ◌≢◌, ℕ, ◌+◌, Bool, true, false, cond, not, ◌&&◌, ◌||◌, List, [], ◌∷◌, ◌++◌, map, Option, Some, None, refl, sym, ◌∙◌, ap, subst, arith}
-use Rattle.std.specs.Prelude.{◌==◌, filter, if◌then◌else◌, is_none}
-use Rattle.std.specs.List.{list_all, list_any}
-use Rattle.std.proofs.lemmas.Bool.Decides.{nat_tests}
+use Rattle.std.proofs.Common.{◌≡◌, ℕ, Bool, true, false, cond, not, ◌&&◌, ◌||◌, List, [], ◌∷◌, ◌++◌, Option, Some, None, refl, sym, ◌∙◌, ap, arith}
+use Rattle.std.specs.Prelude.{◌==◌, is_none}
 use Rattle.rinda_tuple.specs.declared.lease.Lease.{Lease}
 use Rattle.rinda_tuple.specs.Lives.{deadline}
 use Rattle.rinda_rules.specs.declared.object.ObjectKind.{ObjectKind}
@@ -24,11 +22,11 @@ use Rattle.rinda_rules.specs.declared.plain.Hearing.TheVariants as hearing
 use Rattle.rinda_rules.specs.declared.plain.Raised.{Raised}
 use Rattle.rinda_rules.specs.declared.turn.Pick.{Pick}
 use Rattle.rinda_rules.specs.declared.turn.Turn.{Turn}
-use Rattle.rinda_rules.specs.Space.{Plain, Found, TheTuple, TheRequest, TheNotifier, HasEnded, IsRecycled, IsUnknown, found, tuple_at, request_at, is_over, is_reserved, has_match}
+use Rattle.rinda_rules.specs.Space.{Plain, Found, TheTuple, TheRequest, TheNotifier, HasEnded, IsRecycled, IsUnknown, found, tuple_at, is_over, is_reserved, has_match}
 use Rattle.rinda_rules.specs.Queue.{queue}
-use Rattle.rinda_rules.specs.Phases.{is_match, may_have_row, served_as, request_in, request_ended}
-use Rattle.rinda_rules.specs.Cases.{Outcome, answers, on_own, submit, submit_unmatched, collect_served, collect, settle, pop, pop_empty, pop_queue, pop_ended, withdraw, withdraw_request, cancel, renew, look, value, value_ended, ask, Asking, askings, least, told, outcome}
-use Rattle.rinda_rules.specs.Steps.{Case, Step, chooser, matched, found_by}
+use Rattle.rinda_rules.specs.Phases.{may_have_row, served_as, request_in, request_ended}
+use Rattle.rinda_rules.specs.Cases.{Outcome, answers, on_own, submit, collect_served, collect, settle, pop, pop_empty, pop_queue, pop_ended, withdraw, withdraw_request, cancel, renew, look, value, value_ended, ask, Asking, askings, least, told, outcome}
+use Rattle.rinda_rules.specs.Steps.{Case, chooser, matched, found_by}
 use Rattle.rinda_rules.specs.Fixed.{after}
 use Rattle.rinda_rules.specs.Legal.{plain, Legal}
 use Rattle.rinda_rules.specs.Space.{opening}

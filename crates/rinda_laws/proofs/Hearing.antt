@@ -1,13 +1,11 @@
 -- What a notifier hears is what was raised since its registration.
-use Rattle.std.proofs.Common.{◌≡◌, ◌≢◌, ℕ, ◌+◌, ◌<◌, Bool, true, false, cond, not, ◌&&◌, eqb, ltb, List, [], ◌∷◌, ◌++◌, map, Option, Some, None, refl, sym, ◌∙◌, ap, subst, arith}
-use Rattle.std.specs.Prelude.{◌==◌, filter, drop, take, length, if◌then◌else◌}
+use Rattle.std.proofs.Common.{◌≡◌, ◌≢◌, ℕ, ◌+◌, ◌<◌, Bool, true, false, cond, ◌&&◌, ltb, List, [], ◌∷◌, ◌++◌, map, Option, Some, None, refl, sym, ◌∙◌, ap, subst, arith}
+use Rattle.std.specs.Prelude.{◌==◌, filter, drop, length, if◌then◌else◌}
 use Rattle.std.specs.List.{list_all}
 use Rattle.std.proofs.lemmas.Bool.Decides.{nat_tests}
 use Rattle.drb_tree.specs.declared.Tree.{Tree}
-use Rattle.rinda_tuple.specs.declared.tuple.Tuple.{Tuple}
 use Rattle.rinda_tuple.specs.declared.tuple.Template.{Template}
 use Rattle.rinda_tuple.specs.declared.lease.Lease.{Lease}
-use Rattle.rinda_rules.specs.declared.object.Last.{Last}
 use Rattle.rinda_rules.specs.declared.object.Last.TheVariants as last
 use Rattle.rinda_rules.specs.declared.event.Event.{Event}
 use Rattle.rinda_rules.specs.declared.event.Event.TheVariants.{Notify, Tick}
@@ -21,13 +19,13 @@ use Rattle.rinda_rules.specs.declared.plain.Hearing.{Hearing}
 use Rattle.rinda_rules.specs.declared.plain.Hearing.TheVariants as hearing
 use Rattle.rinda_rules.specs.declared.plain.Raised.{Raised}
 use Rattle.rinda_rules.specs.declared.plain.Happening.TheVariants as happening
-use Rattle.rinda_rules.specs.Rows.{row_of, changed, without, numbered}
+use Rattle.rinda_rules.specs.Rows.{row_of, changed, without}
 use Rattle.rinda_rules.specs.Space.{Plain, opening, notifier_at, tuple_at, is_running, hears}
-use Rattle.rinda_rules.specs.Queue.{queue, until_end}
-use Rattle.rinda_rules.specs.Phases.{aged, aged_notifier, deleted, expires, tuple_ended, happening_of, Serve}
-use Rattle.rinda_rules.specs.Cases.{new_tuple, new_notifier, settle_tuple, with_tuple, outcome}
+use Rattle.rinda_rules.specs.Queue.{until_end}
+use Rattle.rinda_rules.specs.Phases.{aged_notifier, deleted, expires, tuple_ended, happening_of}
+use Rattle.rinda_rules.specs.Cases.{new_notifier, settle_tuple, with_tuple, outcome}
 use Rattle.rinda_rules.specs.Steps.{Case, Step, found_by}
-use Rattle.rinda_rules.specs.Settled.{Numbered, Settled}
+use Rattle.rinda_rules.specs.Settled.{Numbered}
 use Rattle.rinda_rules.specs.Fixed.{after}
 use Rattle.rinda_rules.specs.Legal.{plain_from, plain, LegalFrom, Legal}
 use Rattle.rinda_rules.proofs.Keeping.{Keeps, KeepsNotifier, step_kept, serve_kept, found_kept}

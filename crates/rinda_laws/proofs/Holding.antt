@@ -1,13 +1,11 @@
 -- A request that is granted a tuple holds it.
-use Rattle.std.proofs.Common.{◌≡◌, ◌≢◌, ℕ, ◌+◌, Bool, true, false, cond, not, ◌&&◌, ◌||◌, List, [], ◌∷◌, ◌++◌, map, Option, Some, None, refl, sym, ◌∙◌, ap, subst, arith}
+use Rattle.std.proofs.Common.{◌≡◌, ◌≢◌, ℕ, Bool, true, false, cond, not, ◌&&◌, List, [], ◌∷◌, ◌++◌, map, Option, Some, None, refl, sym, ◌∙◌, ap, subst, arith}
 use Rattle.std.specs.Prelude.{◌==◌, filter, if◌then◌else◌, is_none}
 use Rattle.std.specs.List.{list_all}
 use Rattle.std.proofs.lemmas.Bool.Decides.{nat_tests}
 use Rattle.rinda_tuple.specs.declared.tuple.Tuple.{Tuple}
 use Rattle.rinda_rules.specs.declared.object.Last.TheVariants as last
 use Rattle.rinda_rules.specs.declared.event.Event.{Event}
-use Rattle.rinda_rules.specs.declared.event.Event.TheVariants.{Settle}
-use Rattle.rinda_rules.specs.declared.out.Out.{Out}
 use Rattle.rinda_rules.specs.declared.row.RequestState.{RequestState}
 use Rattle.rinda_rules.specs.declared.row.RequestState.TheVariants as state
 use Rattle.rinda_rules.specs.declared.plain.Entry.{Entry}
@@ -18,10 +16,9 @@ use Rattle.rinda_rules.specs.Space.{Plain, opening, tuple_at, request_at}
 use Rattle.rinda_rules.specs.Phases.{aged_tuple, aged_request, expires, in_state, held_by, tuple_ended}
 use Rattle.rinda_rules.specs.Cases.{new_tuple, new_request, read_by, settle_tuple, with_tuple, asked_doubt}
 use Rattle.rinda_rules.specs.Fixed.{after}
-use Rattle.rinda_rules.specs.Legal.{plain_from, plain, LegalFrom, Legal}
-use Rattle.rinda_rules.proofs.Lists.{all_imp, all_map, all_filter, all_filter_imp, all_append, all_changed, all_at, row_has_id, row_changed, row_changed_here, row_without, row_map, row_append}
-use Rattle.rinda_rules.proofs.Keeping.{Keeps, LeasesTuple, LeasesRequest, step_kept}
-use Rattle.rinda_laws.specs.Holds.{Holds}
+use Rattle.rinda_rules.specs.Legal.{plain_from, LegalFrom}
+use Rattle.rinda_rules.proofs.Lists.{all_imp, all_map, all_filter, all_filter_imp, all_append, all_changed, all_at, row_has_id, row_changed, row_changed_here, row_without}
+use Rattle.rinda_rules.proofs.Keeping.{Keeps, LeasesRequest, step_kept}
 use Rattle.rinda_laws.proofs.Telling.{settle_keeps}
 
 -- a tuple is held by that request
@@ -215,8 +212,10 @@ gripping_keeps caller event = record {
   advances = λ s at h. record { each = h.each };
   ages = λ s h.
       let ts : List Entry = map (aged_tuple s.clock) (filter (λ t. not (expires s.clock t)) s.tuples) in
-      record { each = all_map (λ r. holds_granted ts r.id r.state) (aged_request s.clock) s.requests
-      ∙ all_imp (λ r. holds_granted ts r.id r.state) (λ r. holds_granted ts (aged_request s.clock r).id (aged_request s.clock r).state) (aged_grip s.clock ts) s.requests (gripped_by s.tuples ts s.requests (holds-aged s.clock s.tuples) h.each) };
+      record {
+        each = all_map (λ r. holds_granted ts r.id r.state) (aged_request s.clock) s.requests
+            ∙ all_imp (λ r. holds_granted ts r.id r.state) (λ r. holds_granted ts (aged_request s.clock r).id (aged_request s.clock r).state) (aged_grip s.clock ts) s.requests (gripped_by s.tuples ts s.requests (holds-aged s.clock s.tuples) h.each);
+      };
   writes = λ s value lease h. record { each = gripped_by s.tuples (s.tuples ++ new_tuple s value lease ∷ []) s.requests (holds-append s.tuples (new_tuple s value lease ∷ [])) h.each };
   writes_over = λ s value lease h. record { each = all_map (λ r. holds_granted s.tuples r.id r.state) (read_by value) s.requests ∙ all_imp (λ r. holds_granted s.tuples r.id r.state) (λ r. holds_granted s.tuples (read_by value r).id (read_by value r).state) (read_grip value s.tuples) s.requests h.each };
   reserves = λ s k pattern lease h. record { each = all_append (λ r. holds_granted s.tuples r.id r.state) s.requests (new_request s caller k pattern lease ∷ []) h.each refl };
@@ -233,14 +232,18 @@ gripping_keeps caller event = record {
   grants = λ r t s there here isfree why h.
       let ts : List Entry = changed (λ t. t.id) t.id (held_by r.id) s.tuples in
       let here' : row_of (λ t. t.id) t.id ts ≡ Some (held_by r.id t) = row_changed_here (λ (t : Entry). t.id) t.id (held_by r.id) s.tuples t (λ _. refl) here in
-      record { each = all_changed_both (λ r. holds_granted s.tuples r.id r.state) (λ r. holds_granted ts r.id r.state) (λ r. r.id) r.id (in_state (state.Granted t.id)) s.requests
-      (λ x same. ap (is_held_by x.id) here' ∙ same_true r.id x.id (sym same))
-      (λ x. holds_more s.tuples ts (holds-held s.tuples t r.id here isfree) x.id x.state) h.each };
+      record {
+        each = all_changed_both (λ r. holds_granted s.tuples r.id r.state) (λ r. holds_granted ts r.id r.state) (λ r. r.id) r.id (in_state (state.Granted t.id)) s.requests
+            (λ x same. ap (is_held_by x.id) here' ∙ same_true r.id x.id (sym same))
+            (λ x. holds_more s.tuples ts (holds-held s.tuples t r.id here isfree) x.id x.state) h.each;
+      };
   settles = λ r tuple ok s there is mine e h.
       let q : Plain = settle_tuple ok (tuple_at s tuple) s in
-      record { each = subst (λ (rs : List Request). list_all (λ r. holds_granted q.tuples r.id r.state) (without (λ x. x.id) r.id rs) ≡ true) (sym (settle_keeps ok (tuple_at s tuple) s))
-      (all_filter_imp (λ r. holds_granted s.tuples r.id r.state) (λ r. holds_granted q.tuples r.id r.state) (λ x. not (x.id == r.id))
-      (λ x ne. else_grip s.tuples q.tuples tuple r.id (settled_else ok tuple (tuple_at s tuple) s refl) (grip_at s r tuple there is h) x.id x.state (not_same x.id r.id ne)) s.requests h.each) };
+      record {
+        each = subst (λ (rs : List Request). list_all (λ r. holds_granted q.tuples r.id r.state) (without (λ x. x.id) r.id rs) ≡ true) (sym (settle_keeps ok (tuple_at s tuple) s))
+            (all_filter_imp (λ r. holds_granted s.tuples r.id r.state) (λ r. holds_granted q.tuples r.id r.state) (λ x. not (x.id == r.id))
+            (λ x ne. else_grip s.tuples q.tuples tuple r.id (settled_else ok tuple (tuple_at s tuple) s refl) (grip_at s r tuple there is h) x.id x.state (not_same x.id r.id ne)) s.requests h.each);
+      };
   notifier_changes = λ i f s k h. record { each = h.each };
   notifier_ends = λ l n s h. record { each = h.each };
 }

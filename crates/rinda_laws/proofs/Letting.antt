@@ -1,7 +1,6 @@
 -- A tuple that is held stays so until the caller of its holder settles.
-use Rattle.std.proofs.Common.{◌≡◌, ◌≢◌, ℕ, ◌+◌, Bool, true, false, cond, not, ◌&&◌, List, [], ◌∷◌, ◌++◌, map, Option, Some, None, refl, sym, ◌∙◌, ap, subst, arith}
-use Rattle.std.specs.Prelude.{◌==◌, filter, if◌then◌else◌, is_none}
-use Rattle.std.specs.List.{list_all}
+use Rattle.std.proofs.Common.{◌≡◌, ◌≢◌, ℕ, ◌+◌, Bool, true, false, cond, not, ◌&&◌, List, [], ◌∷◌, ◌++◌, Option, Some, None, refl, sym, ◌∙◌, ap, subst, arith}
+use Rattle.std.specs.Prelude.{◌==◌, filter, if◌then◌else◌}
 use Rattle.std.proofs.lemmas.Bool.Decides.{nat_tests}
 use Rattle.rinda_rules.specs.declared.object.Last.TheVariants as last
 use Rattle.rinda_rules.specs.declared.plain.Happening.TheVariants as happening
@@ -13,22 +12,20 @@ use Rattle.rinda_rules.specs.declared.row.RequestState.{RequestState}
 use Rattle.rinda_rules.specs.declared.row.RequestState.TheVariants as state
 use Rattle.rinda_rules.specs.declared.plain.Entry.{Entry}
 use Rattle.rinda_rules.specs.declared.plain.Request.{Request}
-use Rattle.rinda_rules.specs.declared.plain.Raised.{Raised}
 use Rattle.rinda_rules.specs.declared.turn.Turn.{Turn}
-use Rattle.rinda_rules.specs.Rows.{row_of, changed, without}
+use Rattle.rinda_rules.specs.Rows.{row_of, changed}
 use Rattle.rinda_rules.specs.Space.{Plain, Found, TheTuple, TheRequest, TheNotifier, HasEnded, IsRecycled, IsUnknown, found, opening, tuple_at, request_at}
-use Rattle.rinda_rules.specs.Phases.{aged_tuple, expires, held_by, raised, tuple_ended, request_ended, served_as}
-use Rattle.rinda_rules.specs.Cases.{Outcome, answers, new_tuple, settle, settle_tuple, let_go, with_tuple, on_own, outcome}
+use Rattle.rinda_rules.specs.Phases.{aged_tuple, expires, held_by, tuple_ended, request_ended, served_as}
+use Rattle.rinda_rules.specs.Cases.{Outcome, answers, new_tuple, settle, settle_tuple, with_tuple, on_own, outcome}
 use Rattle.rinda_rules.specs.Settled.{grants, is_granted, is_kept}
-use Rattle.rinda_rules.specs.Own.{is_of}
 use Rattle.rinda_rules.specs.Fixed.{after}
-use Rattle.rinda_rules.specs.Legal.{plain_from, plain, LegalFrom, Legal}
-use Rattle.rinda_rules.proofs.Lists.{all_at, row_has_id, row_map, row_append, row_changed_here, row_changed, row_without}
+use Rattle.rinda_rules.specs.Legal.{plain, Legal}
+use Rattle.rinda_rules.proofs.Lists.{all_at, row_has_id, row_map, row_append, row_changed, row_without}
 use Rattle.rinda_rules.proofs.Keeping.{Keeps, step_kept}
-use Rattle.rinda_rules.proofs.Settling.{Both, reached_opening}
+use Rattle.rinda_rules.proofs.Settling.{reached_opening}
 use Rattle.rinda_laws.specs.Owns.{Owns, any}
 use Rattle.rinda_laws.specs.Holds.{Holds, is_settle}
-use Rattle.rinda_laws.specs.Balance.{takes, is_take}
+use Rattle.rinda_laws.specs.Balance.{takes}
 use Rattle.rinda_laws.proofs.Owning.{owns_keeps}
 use Rattle.rinda_laws.proofs.Staying.{open_any, plain_from-append, LegalFrom-front, LegalFrom-back}
 use Rattle.rinda_laws.proofs.Balancing.{takes-push}
@@ -149,11 +146,15 @@ module _ (request id : ℕ) where
     pub held_keeps : Keeps caller event Held
     held_keeps = record {
       advances = λ s at h. record { grip = g.advances s at h.grip; more = k.advances s at h.more; holds = record { row = h.holds.row; there = h.holds.there; by = h.holds.by } };
-      ages = λ s h. record { grip = g.ages s h.grip; more = k.ages s h.more; holds = record {
-        row = aged_tuple s.clock h.holds.row;
-        there = row_map (λ (t : Entry). t.id) id (aged_tuple s.clock) (filter (λ t. not (expires s.clock t)) s.tuples) h.holds.row (aged_id s.clock) (row_filter id (λ t. not (expires s.clock t)) s.tuples h.holds.row h.holds.there (ap not (expires_not s.clock request h.holds.row h.holds.by)));
-        by = aged_holder s.clock h.holds.row ∙ h.holds.by;
-      } };
+      ages = λ s h. record {
+        grip = g.ages s h.grip;
+        more = k.ages s h.more;
+        holds = record {
+          row = aged_tuple s.clock h.holds.row;
+          there = row_map (λ (t : Entry). t.id) id (aged_tuple s.clock) (filter (λ t. not (expires s.clock t)) s.tuples) h.holds.row (aged_id s.clock) (row_filter id (λ t. not (expires s.clock t)) s.tuples h.holds.row h.holds.there (ap not (expires_not s.clock request h.holds.row h.holds.by)));
+          by = aged_holder s.clock h.holds.row ∙ h.holds.by;
+        };
+      };
       writes = λ s value lease h. record { grip = g.writes s value lease h.grip; more = k.writes s value lease h.more; holds = record { row = h.holds.row; there = row_append (λ (t : Entry). t.id) id s.tuples (new_tuple s value lease ∷ []) h.holds.row h.holds.there; by = h.holds.by } };
       writes_over = λ s value lease h. record { grip = g.writes_over s value lease h.grip; more = k.writes_over s value lease h.more; holds = record { row = h.holds.row; there = h.holds.there; by = h.holds.by } };
       reserves = λ s kd pattern lease h. record { grip = g.reserves s kd pattern lease h.grip; more = k.reserves s kd pattern lease h.more; holds = record { row = h.holds.row; there = h.holds.there; by = h.holds.by } };

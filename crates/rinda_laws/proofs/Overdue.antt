@@ -1,6 +1,6 @@
 -- A request that was answered Expired was due, and one that was answered Canceled or is marked was canceled.
-use Rattle.std.proofs.Common.{◌≡◌, ◌≢◌, ℕ, ◌+◌, Bool, true, false, cond, not, ◌&&◌, ◌||◌, List, [], ◌∷◌, ◌++◌, map, max, Option, Some, None, refl, sym, ◌∙◌, ap, subst, arith}
-use Rattle.std.specs.Prelude.{◌==◌, filter, if◌then◌else◌, is_none, nat_le}
+use Rattle.std.proofs.Common.{◌≡◌, ℕ, Bool, true, false, cond, not, ◌&&◌, ◌||◌, List, [], ◌∷◌, max, Option, Some, None, refl, sym, ◌∙◌, ap, subst, arith}
+use Rattle.std.specs.Prelude.{◌==◌, is_none}
 use Rattle.std.specs.List.{list_all, list_any}
 use Rattle.std.proofs.lemmas.Bool.Decides.{nat_tests}
 use Rattle.rinda_tuple.specs.declared.tuple.Tuple.{Tuple}
@@ -16,7 +16,7 @@ use Rattle.rinda_rules.specs.declared.row.RequestState.TheVariants as state
 use Rattle.rinda_rules.specs.declared.plain.Entry.{Entry}
 use Rattle.rinda_rules.specs.declared.plain.Request.{Request}
 use Rattle.rinda_rules.specs.declared.turn.Turn.{Turn}
-use Rattle.rinda_rules.specs.Rows.{row_of, changed, without, rising}
+use Rattle.rinda_rules.specs.Rows.{changed}
 use Rattle.rinda_rules.specs.Space.{Plain, opening, request_at, tuple_at, is_over, is_doubted, is_waiting, is_parked, is_reserved, is_due_request, is_read, fits, value_of}
 use Rattle.rinda_rules.specs.Phases.{aged_request, in_state, tuple_ended}
 use Rattle.rinda_rules.specs.Cases.{new_request, read_by, settle_tuple, with_tuple, asked_doubt, is_asked}
@@ -149,18 +149,24 @@ overdue_keeps caller event = record {
   tuple_leaves = λ l t s here isfree h. record { sound = k.tuple_leaves l t s here isfree h.sound; each = h.each };
   tuple_leases = λ i f s c h. record { sound = k.tuple_leases i f s c h.sound; each = h.each };
   tuple_marks = λ t holder s here isheld h. record { sound = k.tuple_marks t holder s here isheld h.sound; each = h.each };
-  request_leases = λ r f s there c may h. record { sound = k.request_leases r f s there c may h.sound; each =
-      all_changed_other (is_overdue s.clock) (is_overdue s.clock) (λ r. r.id) r.id f s.requests r (up _ _ h.sound.numbered.requests) there
-      (not_expired s.clock (f r) (subst (λ (st : RequestState). was_expired st ≡ false) (sym (c.state r)) (lease_unexpired r s.clock may (all_at (is_overdue s.clock) (λ r. r.id) r.id s.requests r there h.each))))
-      (λ x ne e. e) h.each };
+  request_leases = λ r f s there c may h. record {
+    sound = k.request_leases r f s there c may h.sound;
+    each =
+        all_changed_other (is_overdue s.clock) (is_overdue s.clock) (λ r. r.id) r.id f s.requests r (up _ _ h.sound.numbered.requests) there
+        (not_expired s.clock (f r) (subst (λ (st : RequestState). was_expired st ≡ false) (sym (c.state r)) (lease_unexpired r s.clock may (all_at (is_overdue s.clock) (λ r. r.id) r.id s.requests r there h.each))))
+        (λ x ne e. e) h.each;
+  };
   request_asks = λ i s h. record { sound = k.request_asks i s h.sound; each = all_changed (is_overdue s.clock) (λ r. r.id) i (λ r. record r { doubt = asked_doubt r.doubt }) s.requests (asked_overdue s.clock) h.each };
   request_marks = λ r s there is e h. record { sound = k.request_marks r s there is e h.sound; each = all_changed (is_overdue s.clock) (λ r. r.id) r.id (λ r. record r { marked = true }) s.requests (λ x e. e) h.each };
   request_parks = λ r s there res mine is h. record { sound = k.request_parks r s there res mine is h.sound; each = all_changed (is_overdue s.clock) (λ r. r.id) r.id (in_state state.Parked) s.requests (λ x e. refl) h.each };
   request_answers = λ r o s there why h. record { sound = k.request_answers r o s there why h.sound; each = all_changed (is_overdue s.clock) (λ r. r.id) r.id (in_state (state.Answered o)) s.requests (λ x e. not_expired s.clock (in_state (state.Answered o) x) (answers_unexpired caller event r o why)) h.each };
   request_ends = λ l r s there none mine of h. record { sound = k.request_ends l r s there none mine of h.sound; each = all_filter (is_overdue s.clock) (λ x. not (x.id == r.id)) s.requests h.each };
   grants = λ r t s there here isfree why h. record { sound = k.grants r t s there here isfree why h.sound; each = all_changed (is_overdue s.clock) (λ r. r.id) r.id (in_state (state.Granted t.id)) s.requests (λ x e. refl) h.each };
-  settles = λ r tuple ok s there is mine e h. record { sound = k.settles r tuple ok s there is mine e h.sound; each =
-      rw (settle_keeps ok (tuple_at s tuple) s, settle_clock ok (tuple_at s tuple) s) (all_filter (is_overdue s.clock) (λ x. not (x.id == r.id)) s.requests h.each) };
+  settles = λ r tuple ok s there is mine e h. record {
+    sound = k.settles r tuple ok s there is mine e h.sound;
+    each =
+        rw (settle_keeps ok (tuple_at s tuple) s, settle_clock ok (tuple_at s tuple) s) (all_filter (is_overdue s.clock) (λ x. not (x.id == r.id)) s.requests h.each);
+  };
   notifier_changes = λ i f s c h. record { sound = k.notifier_changes i f s c h.sound; each = h.each };
   notifier_ends = λ l n s h. record { sound = k.notifier_ends l n s h.sound; each = h.each };
 }

@@ -1,5 +1,5 @@
 -- What a notifier hears.
-use Rattle.std.specs.Prelude.{◌≡◌, ℕ, true, List, [], ◌∷◌, ◌++◌, filter, drop, Some}
+use Rattle.std.specs.Prelude.{◌≡◌, ℕ, true, List, ◌∷◌, ◌++◌, filter, drop, Some}
 use Rattle.drb_tree.specs.declared.Tree.{Tree}
 use Rattle.rinda_tuple.specs.declared.tuple.Template.{Template}
 use Rattle.rinda_tuple.specs.declared.lease.Lease.{Lease}
@@ -8,7 +8,7 @@ use Rattle.rinda_rules.specs.declared.out.Out.TheVariants as out
 use Rattle.rinda_rules.specs.declared.turn.Turn.{Turn}
 use Rattle.rinda_rules.specs.declared.plain.Notifier.{Notifier}
 use Rattle.rinda_rules.specs.declared.plain.Raised.{Raised}
-use Rattle.rinda_rules.specs.Space.{Plain, notifier_at, is_running, hears}
+use Rattle.rinda_rules.specs.Space.{notifier_at, is_running, hears}
 use Rattle.rinda_rules.specs.Queue.{queue}
 use Rattle.rinda_rules.specs.Steps.{found_by}
 use Rattle.rinda_rules.specs.Legal.{plain, Legal}
