@@ -3,26 +3,23 @@ use Rattle.std.proofs.Common.{◌≡◌, ◌≢◌, ℕ, ◌+◌, ◌<◌, ◌�
 use Rattle.std.specs.Prelude.{◌==◌, filter, if◌then◌else◌}
 use Rattle.std.specs.List.{list_all}
 use Rattle.std.proofs.lemmas.Bool.Decides.{nat_tests}
-use Rattle.rinda_tuple.specs.declared.tuple.Tuple.{Tuple}
-use Rattle.rinda_tuple.specs.declared.lease.Lease.{Lease}
 use Rattle.rinda_rules.specs.declared.object.Last.{Last}
 use Rattle.rinda_rules.specs.declared.object.Last.TheVariants as last
 use Rattle.rinda_rules.specs.declared.event.Event.{Event}
-use Rattle.rinda_rules.specs.declared.plain.Happening.{Happening}
 use Rattle.rinda_rules.specs.declared.plain.Happening.TheVariants as happening
 use Rattle.rinda_rules.specs.declared.plain.Entry.{Entry}
 use Rattle.rinda_rules.specs.declared.plain.Raised.{Raised}
 use Rattle.rinda_rules.specs.declared.turn.Turn.{Turn}
 use Rattle.rinda_rules.specs.Rows.{row_of, changed, without, rising, numbered}
 use Rattle.rinda_rules.specs.Space.{Plain, opening, tuple_at}
-use Rattle.rinda_rules.specs.Phases.{aged, aged_tuple, expires, deleted, happening_of, raised, tuple_ended, held_by}
-use Rattle.rinda_rules.specs.Cases.{new_tuple, minted, written, written_over, with_tuple, settle_tuple}
+use Rattle.rinda_rules.specs.Phases.{aged_tuple, expires, deleted, happening_of, tuple_ended, held_by}
+use Rattle.rinda_rules.specs.Cases.{new_tuple, with_tuple, settle_tuple}
 use Rattle.rinda_rules.specs.Fixed.{after}
 use Rattle.rinda_rules.specs.Legal.{plain_from, plain, LegalFrom, Legal}
-use Rattle.rinda_rules.proofs.Lists.{row_has_id, numbered-map, numbered-filter, numbered-changed, numbered-more, numbered-push}
+use Rattle.rinda_rules.proofs.Lists.{numbered-map, numbered-filter, numbered-changed, numbered-more, numbered-push}
 use Rattle.rinda_rules.proofs.Finding.{itself-tuple}
 use Rattle.rinda_rules.proofs.Keeping.{Keeps, step_kept}
-use Rattle.rinda_laws.specs.Balance.{how_many, writes, takes, deletes, there, Balanced, is_write, is_take, is_delete}
+use Rattle.rinda_laws.specs.Balance.{how_many, writes, takes, deletes, there, is_write, is_take, is_delete}
 
 count_append : {X : Type 0} (p : X → Bool) (xs ys : List X) → how_many p (xs ++ ys) ≡ how_many p xs + how_many p ys
 count_append p [] ys = grind arith
@@ -81,7 +78,7 @@ takes-deleted id (t ∷ ts) = grind (arith, takes-deleted id ts)
 writes-push : (id : ℕ) (es : List Raised) (e : Raised) → writes id (es ++ e ∷ []) ≡ writes id es + cond (is_write e.what && e.id == id) 1 0
 writes-push id es e = grind (arith, count_append (λ (e : Raised). is_write e.what && e.id == id) es (e ∷ []))
 
-takes-push : (id : ℕ) (es : List Raised) (e : Raised) → takes id (es ++ e ∷ []) ≡ takes id es + cond (is_take e.what && e.id == id) 1 0
+pub takes-push : (id : ℕ) (es : List Raised) (e : Raised) → takes id (es ++ e ∷ []) ≡ takes id es + cond (is_take e.what && e.id == id) 1 0
 takes-push id es e = grind (arith, count_append (λ (e : Raised). is_take e.what && e.id == id) es (e ∷ []))
 
 deletes-push : (id : ℕ) (es : List Raised) (e : Raised) → deletes id (es ++ e ∷ []) ≡ deletes id es + cond (is_delete e.what && e.id == id) 1 0

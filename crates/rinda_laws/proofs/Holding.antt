@@ -1,13 +1,11 @@
 -- A request that is granted a tuple holds it.
-use Rattle.std.proofs.Common.{◌≡◌, ◌≢◌, ℕ, ◌+◌, Bool, true, false, cond, not, ◌&&◌, ◌||◌, List, [], ◌∷◌, ◌++◌, map, Option, Some, None, refl, sym, ◌∙◌, ap, subst, arith}
+use Rattle.std.proofs.Common.{◌≡◌, ◌≢◌, ℕ, Bool, true, false, cond, not, ◌&&◌, List, [], ◌∷◌, ◌++◌, map, Option, Some, None, refl, sym, ◌∙◌, ap, subst, arith}
 use Rattle.std.specs.Prelude.{◌==◌, filter, if◌then◌else◌, is_none}
 use Rattle.std.specs.List.{list_all}
 use Rattle.std.proofs.lemmas.Bool.Decides.{nat_tests}
 use Rattle.rinda_tuple.specs.declared.tuple.Tuple.{Tuple}
 use Rattle.rinda_rules.specs.declared.object.Last.TheVariants as last
 use Rattle.rinda_rules.specs.declared.event.Event.{Event}
-use Rattle.rinda_rules.specs.declared.event.Event.TheVariants.{Settle}
-use Rattle.rinda_rules.specs.declared.out.Out.{Out}
 use Rattle.rinda_rules.specs.declared.row.RequestState.{RequestState}
 use Rattle.rinda_rules.specs.declared.row.RequestState.TheVariants as state
 use Rattle.rinda_rules.specs.declared.plain.Entry.{Entry}
@@ -18,10 +16,9 @@ use Rattle.rinda_rules.specs.Space.{Plain, opening, tuple_at, request_at}
 use Rattle.rinda_rules.specs.Phases.{aged_tuple, aged_request, expires, in_state, held_by, tuple_ended}
 use Rattle.rinda_rules.specs.Cases.{new_tuple, new_request, read_by, settle_tuple, with_tuple, asked_doubt}
 use Rattle.rinda_rules.specs.Fixed.{after}
-use Rattle.rinda_rules.specs.Legal.{plain_from, plain, LegalFrom, Legal}
-use Rattle.rinda_rules.proofs.Lists.{all_imp, all_map, all_filter, all_filter_imp, all_append, all_changed, all_at, row_has_id, row_changed, row_changed_here, row_without, row_map, row_append}
-use Rattle.rinda_rules.proofs.Keeping.{Keeps, LeasesTuple, LeasesRequest, step_kept}
-use Rattle.rinda_laws.specs.Holds.{Holds}
+use Rattle.rinda_rules.specs.Legal.{plain_from, LegalFrom}
+use Rattle.rinda_rules.proofs.Lists.{all_imp, all_map, all_filter, all_filter_imp, all_append, all_changed, all_at, row_has_id, row_changed, row_changed_here, row_without}
+use Rattle.rinda_rules.proofs.Keeping.{Keeps, LeasesRequest, step_kept}
 use Rattle.rinda_laws.proofs.Telling.{settle_keeps}
 
 -- a tuple is held by that request
@@ -158,12 +155,12 @@ read_grip value ts r e = grind (arith, nat_tests)
 leased_grip : (f : Request → Request) → LeasesRequest f → (ts : List Entry) (r : Request) → holds_granted ts r.id r.state ≡ true → holds_granted ts (f r).id (f r).state ≡ true
 leased_grip f k ts r e = rw (k.id r, k.state r) e
 
-all_changed_both : {R : Type 0} (p p' : R → Bool) (key : R → ℕ) (id : ℕ) (f : R → R) (xs : List R) → ((x : R) → key x ≡ id → p' (f x) ≡ true) → ((x : R) → p x ≡ true → p' x ≡ true) → list_all p xs ≡ true → list_all p' (changed key id f xs) ≡ true
+pub all_changed_both : {R : Type 0} (p p' : R → Bool) (key : R → ℕ) (id : ℕ) (f : R → R) (xs : List R) → ((x : R) → key x ≡ id → p' (f x) ≡ true) → ((x : R) → p x ≡ true → p' x ≡ true) → list_all p xs ≡ true → list_all p' (changed key id f xs) ≡ true
 all_changed_both p p' key id f [] here other e = refl
 all_changed_both p p' key id f (x ∷ xs) here other e = grind (arith, nat_tests, here x, other x, all_changed_both p p' key id f xs here other)
 
 -- the tuples after a Settle are those before, but for the one
-settled_else : (ok : Bool) (tuple : ℕ) (o : Option Entry) (s : Plain) → tuple_at s tuple ≡ o → (u : ℕ) → u ≢ tuple → row_of (λ t. t.id) u (settle_tuple ok o s).tuples ≡ row_of (λ t. t.id) u s.tuples
+pub settled_else : (ok : Bool) (tuple : ℕ) (o : Option Entry) (s : Plain) → tuple_at s tuple ≡ o → (u : ℕ) → u ≢ tuple → row_of (λ t. t.id) u (settle_tuple ok o s).tuples ≡ row_of (λ t. t.id) u s.tuples
 settled_else ok tuple None s e u ne = refl
 settled_else true tuple (Some t) s e u ne = row_without (λ (t : Entry). t.id) t.id u s.tuples (λ same. ne (same ∙ row_has_id (λ (t : Entry). t.id) tuple s.tuples t e))
 settled_else false tuple (Some t) s e u ne = by_mark t.marked
@@ -185,10 +182,10 @@ one_holds (Some t) a b x y = one_holder t.holder a b x y
 
 -- another request than the one that settles holds another tuple
 else_grip : (ts ts' : List Entry) (tuple settler : ℕ) → ((u : ℕ) → u ≢ tuple → row_of (λ t. t.id) u ts' ≡ row_of (λ t. t.id) u ts) → is_held_by settler (row_of (λ t. t.id) tuple ts) ≡ true → (id : ℕ) (st : RequestState) → id ≢ settler → holds_granted ts id st ≡ true → holds_granted ts' id st ≡ true
-else_grip ts ts' tuple settler else held id state.Reserved ne e = refl
-else_grip ts ts' tuple settler else held id state.Parked ne e = refl
-else_grip ts ts' tuple settler else held id (state.Answered o) ne e = refl
-else_grip ts ts' tuple settler else held id (state.Granted u) ne e = by_test (u == tuple) refl
+else_grip ts ts' tuple settler others held id state.Reserved ne e = refl
+else_grip ts ts' tuple settler others held id state.Parked ne e = refl
+else_grip ts ts' tuple settler others held id (state.Answered o) ne e = refl
+else_grip ts ts' tuple settler others held id (state.Granted u) ne e = by_test (u == tuple) refl
   where
     same : (a b : ℕ) → a == b ≡ true → a ≡ b
     same a b e = grind (arith, nat_tests)
@@ -198,7 +195,7 @@ else_grip ts ts' tuple settler else held id (state.Granted u) ne e = by_test (u 
 
     by_test : (b : Bool) → u == tuple ≡ b → is_held_by id (row_of (λ t. t.id) u ts') ≡ true
     by_test true is = absurd (ne (one_holds (row_of (λ t. t.id) tuple ts) id settler (subst (λ (i : ℕ). is_held_by id (row_of (λ t. t.id) i ts) ≡ true) (same u tuple is) e) held))
-    by_test false is = ap (is_held_by id) (else u (other u tuple is)) ∙ e
+    by_test false is = ap (is_held_by id) (others u (other u tuple is)) ∙ e
 
 not_same : (a b : ℕ) → not (a == b) ≡ true → a ≢ b
 not_same a b e same = grind (arith, nat_tests)
@@ -215,8 +212,10 @@ gripping_keeps caller event = record {
   advances = λ s at h. record { each = h.each };
   ages = λ s h.
       let ts : List Entry = map (aged_tuple s.clock) (filter (λ t. not (expires s.clock t)) s.tuples) in
-      record { each = all_map (λ r. holds_granted ts r.id r.state) (aged_request s.clock) s.requests
-      ∙ all_imp (λ r. holds_granted ts r.id r.state) (λ r. holds_granted ts (aged_request s.clock r).id (aged_request s.clock r).state) (aged_grip s.clock ts) s.requests (gripped_by s.tuples ts s.requests (holds-aged s.clock s.tuples) h.each) };
+      record {
+        each = all_map (λ r. holds_granted ts r.id r.state) (aged_request s.clock) s.requests
+            ∙ all_imp (λ r. holds_granted ts r.id r.state) (λ r. holds_granted ts (aged_request s.clock r).id (aged_request s.clock r).state) (aged_grip s.clock ts) s.requests (gripped_by s.tuples ts s.requests (holds-aged s.clock s.tuples) h.each);
+      };
   writes = λ s value lease h. record { each = gripped_by s.tuples (s.tuples ++ new_tuple s value lease ∷ []) s.requests (holds-append s.tuples (new_tuple s value lease ∷ [])) h.each };
   writes_over = λ s value lease h. record { each = all_map (λ r. holds_granted s.tuples r.id r.state) (read_by value) s.requests ∙ all_imp (λ r. holds_granted s.tuples r.id r.state) (λ r. holds_granted s.tuples (read_by value r).id (read_by value r).state) (read_grip value s.tuples) s.requests h.each };
   reserves = λ s k pattern lease h. record { each = all_append (λ r. holds_granted s.tuples r.id r.state) s.requests (new_request s caller k pattern lease ∷ []) h.each refl };
@@ -233,14 +232,18 @@ gripping_keeps caller event = record {
   grants = λ r t s there here isfree why h.
       let ts : List Entry = changed (λ t. t.id) t.id (held_by r.id) s.tuples in
       let here' : row_of (λ t. t.id) t.id ts ≡ Some (held_by r.id t) = row_changed_here (λ (t : Entry). t.id) t.id (held_by r.id) s.tuples t (λ _. refl) here in
-      record { each = all_changed_both (λ r. holds_granted s.tuples r.id r.state) (λ r. holds_granted ts r.id r.state) (λ r. r.id) r.id (in_state (state.Granted t.id)) s.requests
-      (λ x same. ap (is_held_by x.id) here' ∙ same_true r.id x.id (sym same))
-      (λ x. holds_more s.tuples ts (holds-held s.tuples t r.id here isfree) x.id x.state) h.each };
+      record {
+        each = all_changed_both (λ r. holds_granted s.tuples r.id r.state) (λ r. holds_granted ts r.id r.state) (λ r. r.id) r.id (in_state (state.Granted t.id)) s.requests
+            (λ x same. ap (is_held_by x.id) here' ∙ same_true r.id x.id (sym same))
+            (λ x. holds_more s.tuples ts (holds-held s.tuples t r.id here isfree) x.id x.state) h.each;
+      };
   settles = λ r tuple ok s there is mine e h.
       let q : Plain = settle_tuple ok (tuple_at s tuple) s in
-      record { each = subst (λ (rs : List Request). list_all (λ r. holds_granted q.tuples r.id r.state) (without (λ x. x.id) r.id rs) ≡ true) (sym (settle_keeps ok (tuple_at s tuple) s))
-      (all_filter_imp (λ r. holds_granted s.tuples r.id r.state) (λ r. holds_granted q.tuples r.id r.state) (λ x. not (x.id == r.id))
-      (λ x ne. else_grip s.tuples q.tuples tuple r.id (settled_else ok tuple (tuple_at s tuple) s refl) (grip_at s r tuple there is h) x.id x.state (not_same x.id r.id ne)) s.requests h.each) };
+      record {
+        each = subst (λ (rs : List Request). list_all (λ r. holds_granted q.tuples r.id r.state) (without (λ x. x.id) r.id rs) ≡ true) (sym (settle_keeps ok (tuple_at s tuple) s))
+            (all_filter_imp (λ r. holds_granted s.tuples r.id r.state) (λ r. holds_granted q.tuples r.id r.state) (λ x. not (x.id == r.id))
+            (λ x ne. else_grip s.tuples q.tuples tuple r.id (settled_else ok tuple (tuple_at s tuple) s refl) (grip_at s r tuple there is h) x.id x.state (not_same x.id r.id ne)) s.requests h.each);
+      };
   notifier_changes = λ i f s k h. record { each = h.each };
   notifier_ends = λ l n s h. record { each = h.each };
 }

@@ -2,3 +2,8 @@ pub mod Owning
 pub mod Telling
 pub mod Staying
 pub mod Balancing
+pub mod Holding
+pub mod Letting
+pub mod Hearing
+pub mod Deciding
+pub mod Overdue

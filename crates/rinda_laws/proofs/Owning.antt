@@ -1,24 +1,23 @@
 -- A request stays its caller's.
-use Rattle.std.proofs.Common.{◌≡◌, ◌≢◌, ℕ, ◌+◌, Bool, true, false, cond, not, ◌&&◌, ◌||◌, List, [], ◌∷◌, ◌++◌, map, Option, Some, None, refl, sym, ◌∙◌, ap, subst, arith}
-use Rattle.std.specs.Prelude.{◌==◌, filter, if◌then◌else◌, is_none}
+use Rattle.std.proofs.Common.{◌≡◌, ◌≢◌, ℕ, Bool, true, false, cond, ◌&&◌, List, [], ◌∷◌, map, Option, Some, None, refl, sym, ◌∙◌, ap, subst, arith}
+use Rattle.std.specs.Prelude.{◌==◌, if◌then◌else◌}
 use Rattle.std.proofs.lemmas.Bool.Decides.{nat_tests}
 use Rattle.rinda_tuple.specs.declared.tuple.Tuple.{Tuple}
-use Rattle.rinda_rules.specs.declared.object.Last.{Last}
 use Rattle.rinda_rules.specs.declared.object.Last.TheVariants as last
 use Rattle.rinda_rules.specs.declared.event.Event.{Event}
-use Rattle.rinda_rules.specs.declared.event.Event.TheVariants.{Submit, Settle, Cancel}
+use Rattle.rinda_rules.specs.declared.event.Event.TheVariants.{Submit}
 use Rattle.rinda_rules.specs.declared.out.Out.{Out}
 use Rattle.rinda_rules.specs.declared.row.RequestState.{RequestState}
 use Rattle.rinda_rules.specs.declared.row.RequestState.TheVariants as state
 use Rattle.rinda_rules.specs.declared.plain.Entry.{Entry}
 use Rattle.rinda_rules.specs.declared.plain.Request.{Request}
 use Rattle.rinda_rules.specs.Rows.{row_of, changed, without}
-use Rattle.rinda_rules.specs.Space.{Plain, request_at, tuple_at, is_due_request, is_waiting, is_parked, is_doubted, is_read, fits}
+use Rattle.rinda_rules.specs.Space.{Plain, request_at, tuple_at, is_due_request, is_waiting, is_parked, is_read, fits}
 use Rattle.rinda_rules.specs.Phases.{aged_request, in_state, tuple_ended}
 use Rattle.rinda_rules.specs.Cases.{new_request, read_by, settle_tuple, with_tuple, asked_doubt}
 use Rattle.rinda_rules.specs.Own.{is_of}
 use Rattle.rinda_rules.proofs.Lists.{row_has_id, row_map, row_append, row_without}
-use Rattle.rinda_rules.proofs.Keeping.{Keeps, LeasesRequest, Serves, waits, submits, Answers, serves, cancels}
+use Rattle.rinda_rules.proofs.Keeping.{Keeps, Serves, waits, submits, Answers, serves, cancels}
 use Rattle.rinda_laws.specs.Owns.{Owns}
 
 -- whoever may leave the parked state may be in every state

@@ -1,6 +1,6 @@
 -- A request stays its caller's until that caller's last turn of it.
-use Rattle.std.proofs.Common.{◌≡◌, ◌≢◌, ℕ, ◌+◌, Bool, true, false, cond, not, ◌&&◌, ◌||◌, ltb, List, [], ◌∷◌, ◌++◌, map, Option, Some, None, refl, sym, ◌∙◌, ap, subst, arith}
-use Rattle.std.specs.Prelude.{◌==◌, filter, if◌then◌else◌, is_none}
+use Rattle.std.proofs.Common.{◌≡◌, ℕ, Bool, true, false, cond, not, ◌&&◌, ltb, List, [], ◌∷◌, ◌++◌, Option, Some, None, refl, sym, ◌∙◌, ap, subst, arith}
+use Rattle.std.specs.Prelude.{◌==◌, is_none}
 use Rattle.std.specs.List.{list_all}
 use Rattle.std.proofs.lemmas.Bool.Decides.{nat_tests}
 use Rattle.rinda_tuple.specs.declared.tuple.Template.{Template}
@@ -18,14 +18,14 @@ use Rattle.rinda_rules.specs.declared.row.RequestState.{RequestState}
 use Rattle.rinda_rules.specs.declared.row.RequestState.TheVariants as state
 use Rattle.rinda_rules.specs.declared.plain.Entry.{Entry}
 use Rattle.rinda_rules.specs.declared.plain.Request.{Request}
-use Rattle.rinda_rules.specs.Rows.{row_of, changed, without, numbered}
-use Rattle.rinda_rules.specs.Space.{Plain, Found, TheRequest, found, opening, request_at, tuple_at, is_over, value_of, is_reserved}
-use Rattle.rinda_rules.specs.Phases.{aged, in_state, request_in, request_ended, tuple_ended, served_as, Serve}
-use Rattle.rinda_rules.specs.Cases.{Outcome, answers, on_own, submit, submit_matched, submit_unmatched, collect_served, collect, last_of, value_at, settle, withdraw, withdraw_request, new_request, outcome}
+use Rattle.rinda_rules.specs.Rows.{row_of}
+use Rattle.rinda_rules.specs.Space.{Plain, Found, found, opening, request_at, tuple_at, is_over, is_reserved}
+use Rattle.rinda_rules.specs.Phases.{aged, in_state, request_in, request_ended, served_as, Serve}
+use Rattle.rinda_rules.specs.Cases.{Outcome, answers, on_own, submit, collect_served, collect, settle, withdraw, withdraw_request, new_request, outcome}
 use Rattle.rinda_rules.specs.Steps.{Case, Step, chooser, found_by}
 use Rattle.rinda_rules.specs.Settled.{Numbered, Settled, grants}
 use Rattle.rinda_rules.specs.Fixed.{after}
-use Rattle.rinda_rules.specs.Legal.{MayCome, plain_from, plain, LegalFrom, Legal}
+use Rattle.rinda_rules.specs.Legal.{plain_from, plain, LegalFrom, Legal}
 use Rattle.rinda_rules.specs.Own.{is_of}
 use Rattle.rinda_rules.specs.Nothing.{is_nothing}
 use Rattle.rinda_rules.proofs.Lists.{all_at, row_has_id}

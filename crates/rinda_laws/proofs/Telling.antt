@@ -1,6 +1,6 @@
 -- A request is answered with a tuple, Expired or Canceled, and nothing else.
-use Rattle.std.proofs.Common.{◌≡◌, ◌≢◌, ℕ, Bool, true, false, cond, not, ◌&&◌, List, [], ◌∷◌, ◌++◌, map, Option, Some, None, refl, sym, ◌∙◌, ap, subst, arith}
-use Rattle.std.specs.Prelude.{◌==◌, filter, if◌then◌else◌}
+use Rattle.std.proofs.Common.{◌≡◌, ℕ, Bool, true, false, cond, not, List, [], ◌∷◌, Option, Some, None, refl, sym, ◌∙◌, subst, arith}
+use Rattle.std.specs.Prelude.{◌==◌}
 use Rattle.std.specs.List.{list_all}
 use Rattle.std.proofs.lemmas.Bool.Decides.{nat_tests}
 use Rattle.rinda_tuple.specs.declared.tuple.Tuple.{Tuple}
@@ -12,7 +12,7 @@ use Rattle.rinda_rules.specs.declared.row.RequestState.{RequestState}
 use Rattle.rinda_rules.specs.declared.row.RequestState.TheVariants as state
 use Rattle.rinda_rules.specs.declared.plain.Entry.{Entry}
 use Rattle.rinda_rules.specs.declared.plain.Request.{Request}
-use Rattle.rinda_rules.specs.Rows.{row_of, changed, without}
+use Rattle.rinda_rules.specs.Rows.{changed}
 use Rattle.rinda_rules.specs.Space.{Plain, opening, tuple_at}
 use Rattle.rinda_rules.specs.Phases.{aged_request, in_state, tuple_ended}
 use Rattle.rinda_rules.specs.Cases.{new_request, read_by, settle_tuple, with_tuple, asked_doubt}

@@ -1,2 +1,5 @@
 pub mod Owns
 pub mod Balance
+pub mod Holds
+pub mod Hears
+pub mod Decides

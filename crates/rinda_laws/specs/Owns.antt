@@ -1,5 +1,5 @@
 -- Whose a request is, and what ends it.
-use Rattle.std.specs.Prelude.{◌≡◌, ℕ, Bool, true, false, not, ◌&&◌, ◌||◌, ◌==◌, List, [], ◌∷◌, ◌++◌, Some}
+use Rattle.std.specs.Prelude.{◌≡◌, ℕ, Bool, true, false, not, ◌&&◌, ◌==◌, List, [], ◌∷◌, ◌++◌, Some}
 use Rattle.std.specs.List.{list_all}
 use Rattle.rinda_tuple.specs.declared.tuple.Template.{Template}
 use Rattle.rinda_tuple.specs.declared.lease.Lease.{Lease}

@@ -4,5 +4,8 @@
 //! law, which `specs/` says in full.
 #![tactic(auto)]
 
+pub mod answers;
+pub mod holders;
+pub mod notifiers;
 pub mod requests;
 pub mod tuples;

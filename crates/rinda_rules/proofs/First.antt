@@ -1,15 +1,11 @@
 -- The first turn of a space.
-use Rattle.std.proofs.Common.{◌≡◌, ℕ, Bool, true, false, List, [], ◌∷◌, Option, Some, None, refl, arith}
-use Rattle.std.specs.Prelude.{IsTrue, max}
+use Rattle.std.proofs.Common.{ℕ, [], ◌∷◌, None, refl}
 use Rattle.rinda_tuple.specs.declared.tuple.Tuple.{Tuple}
 use Rattle.rinda_tuple.specs.declared.lease.Life.TheVariants.{Never}
 use Rattle.rinda_rules.specs.declared.event.Event.TheVariants.{Write}
 use Rattle.rinda_rules.specs.declared.out.Out.TheVariants.{Entry}
 use Rattle.rinda_rules.specs.declared.turn.Turn.{Turn}
-use Rattle.rinda_rules.specs.Space.{opening}
-use Rattle.rinda_rules.specs.Fixed.{after}
-use Rattle.rinda_rules.specs.Settled.{Settled}
-use Rattle.rinda_rules.specs.Legal.{Legal, MayCome}
+use Rattle.rinda_rules.specs.Legal.{Legal}
 
 -- the write of a tuple for ever, as the first turn
 abbrev pub first_write : ℕ → ℕ → Tuple → Turn

@@ -1,17 +1,16 @@
 -- What the picks of a turn fix, and a history with one more turn.
-use Rattle.std.proofs.Common.{◌≡◌, ℕ, Bool, true, false, ◌&&◌, List, [], ◌∷◌, ◌++◌, Option, Some, None, refl, sym, ◌∙◌, ap, subst, arith}
-use Rattle.std.specs.Prelude.{IsTrue, ◌↔◌}
+use Rattle.std.proofs.Common.{◌≡◌, ℕ, Bool, true, ◌&&◌, List, [], ◌∷◌, ◌++◌, Option, Some, None, refl, arith}
+use Rattle.std.specs.Prelude.{◌↔◌}
 use Rattle.rinda_rules.specs.declared.plain.Request.{Request}
 use Rattle.rinda_rules.specs.declared.turn.Pick.{Pick}
 use Rattle.rinda_rules.specs.declared.event.Event.{Event}
 use Rattle.rinda_rules.specs.declared.out.Out.{Out}
 use Rattle.rinda_rules.specs.declared.turn.Turn.{Turn}
-use Rattle.rinda_rules.specs.Space.{Plain, opening, tuple_at}
-use Rattle.rinda_rules.specs.Phases.{aged, Serve, served, may_serve, nobody_waits, is_match}
-use Rattle.rinda_rules.specs.Cases.{Outcome, outcome}
-use Rattle.rinda_rules.specs.Steps.{Case, Step, chooser, found_by}
+use Rattle.rinda_rules.specs.Space.{Plain}
+use Rattle.rinda_rules.specs.Phases.{Serve, served}
+use Rattle.rinda_rules.specs.Steps.{Case, Step, found_by}
 use Rattle.rinda_rules.specs.Fixed.{served_all, picks_serve, case_with, picks_fit_case, turn_with, picks_fit, after}
-use Rattle.rinda_rules.specs.Legal.{MayCome, plain_from, plain, LegalFrom, Legal}
+use Rattle.rinda_rules.specs.Legal.{MayCome, plain_from, LegalFrom}
 
 both : (a b : Bool) → a ≡ true → b ≡ true → (a && b) ≡ true
 both a b e f = grind arith

@@ -1,18 +1,15 @@
 -- A fact of the space that each of the few ways in which a turn changes it keeps holds after the turn.
-use Rattle.std.proofs.Common.{◌≡◌, ◌≢◌, ℕ, ◌+◌, Bool, true, false, cond, not, ◌&&◌, ◌||◌, List, [], ◌∷◌, ◌++◌, map, Option, Some, None, refl, sym, ◌∙◌, ap, subst, arith}
-use Rattle.std.specs.Prelude.{◌==◌, filter, if◌then◌else◌, is_none}
+use Rattle.std.proofs.Common.{◌≡◌, ◌≢◌, ℕ, ◌+◌, Bool, true, false, cond, ◌&&◌, ◌||◌, List, [], ◌∷◌, Option, Some, None, refl, sym, ◌∙◌, ap, subst, arith}
+use Rattle.std.specs.Prelude.{◌==◌, is_none}
 use Rattle.std.proofs.lemmas.Bool.Decides.{nat_tests}
 use Rattle.drb_tree.specs.declared.Tree.{Tree}
 use Rattle.drb_tree.specs.declared.Remote.{Remote}
 use Rattle.rinda_tuple.specs.declared.tuple.Tuple.{Tuple}
 use Rattle.rinda_tuple.specs.declared.tuple.Template.{Template}
 use Rattle.rinda_tuple.specs.declared.lease.Lease.{Lease}
-use Rattle.rinda_tuple.specs.declared.lease.Life.{Life}
 use Rattle.rinda_tuple.specs.Lives.{deadline}
 use Rattle.rinda_rules.specs.declared.object.Last.{Last}
 use Rattle.rinda_rules.specs.declared.object.Last.TheVariants as last
-use Rattle.rinda_rules.specs.declared.object.Doubt.{Doubt}
-use Rattle.rinda_rules.specs.declared.object.Doubt.TheVariants as doubt
 use Rattle.rinda_rules.specs.declared.event.Kind.{Kind}
 use Rattle.rinda_rules.specs.declared.event.Kind.TheVariants as kind
 use Rattle.rinda_rules.specs.declared.event.Event.{Event}
@@ -28,14 +25,13 @@ use Rattle.rinda_rules.specs.declared.plain.Notifier.{Notifier}
 use Rattle.rinda_rules.specs.declared.plain.Hearing.{Hearing}
 use Rattle.rinda_rules.specs.declared.plain.Hearing.TheVariants as hearing
 use Rattle.rinda_rules.specs.declared.plain.Raised.{Raised}
-use Rattle.rinda_rules.specs.Rows.{row_of, changed, without}
-use Rattle.rinda_rules.specs.Space.{Plain, Found, TheTuple, TheRequest, TheNotifier, HasEnded, IsRecycled, IsUnknown, found, tuple_at, request_at, notifier_at, is_over, renewer_of, value_of, is_reserved, is_parked, is_doubted, is_free, is_live, is_read, is_waiting, may_have, has_match, fits, event_value}
+use Rattle.rinda_rules.specs.Space.{Plain, Found, TheTuple, TheRequest, TheNotifier, HasEnded, IsRecycled, IsUnknown, found, tuple_at, request_at, is_over, renewer_of, value_of, is_reserved, is_parked, is_free, is_live, is_read, may_have, has_match, fits}
 use Rattle.rinda_rules.specs.Queue.{queue}
-use Rattle.rinda_rules.specs.Phases.{advanced, aged, tuple_ended, request_ended, notifier_ended, in_state, request_in, held_by, served_as, served_with, is_match, may_have_row, may_serve, may_serve_row, read_waits, served, served_rows, Serve}
-use Rattle.rinda_rules.specs.Cases.{Outcome, answers, with_tuple, with_request, with_notifier, new_tuple, minted, written, written_over, write_tuple, write, reserve, notify, on_own, submit, submit_matched, submit_unmatched, collect_served, collect, last_of, value_at, let_go, settle_tuple, settle, pop_empty, pop_queue, pop_notifier, pop_ended, pop, withdraw_request, withdraw, cancel_tuple, cancel_request, cancel_notifier, cancel, renewed_tuple, renewed_request, renewed_notifier, renew_request, renew_notifier, renew_with, renew, look, value, value_ended, all_of, Asking, askings, least, asked_doubt, asked_for, ask, is_asked, told_tuple, told_request, told_notifier, told, outcome}
+use Rattle.rinda_rules.specs.Phases.{advanced, aged, tuple_ended, request_ended, notifier_ended, in_state, request_in, served_as, is_match, may_have_row, may_serve_row, served, served_rows, Serve}
+use Rattle.rinda_rules.specs.Cases.{Outcome, answers, with_tuple, with_request, with_notifier, new_tuple, minted, written, written_over, write, reserve, notify, on_own, submit, submit_unmatched, collect_served, collect, last_of, settle_tuple, settle, pop_empty, pop_queue, pop, withdraw_request, withdraw, cancel_tuple, cancel_request, cancel_notifier, cancel, renewed_tuple, renewed_request, renewed_notifier, renew_request, renew_notifier, renew_with, look, value, Asking, askings, least, asked_doubt, ask, is_asked, told_tuple, told_request, told_notifier, told, outcome}
 use Rattle.rinda_rules.specs.Steps.{matched, chooser, found_by, Case, Step}
 use Rattle.rinda_rules.specs.Own.{is_of}
-use Rattle.rinda_rules.proofs.Finding.{itself-request, itself-tuple, itself-notifier, found-request, found-tuple, found-notifier}
+use Rattle.rinda_rules.proofs.Finding.{itself-request, itself-tuple, found-request, found-tuple}
 use Rattle.rinda_rules.proofs.Lists.{row_has_id, row_changed_here}
 
 -- a tuple is changed in its life and doubt alone

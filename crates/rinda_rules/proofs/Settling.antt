@@ -1,10 +1,8 @@
 -- Aging leaves nothing due, and serving then leads to a settled space.
-use Rattle.std.proofs.Common.{◌≡◌, ◌≢◌, ℕ, ◌+◌, Bool, true, false, cond, not, ◌&&◌, ◌||◌, List, [], ◌∷◌, map, Option, Some, None, refl, sym, ◌∙◌, ap, subst, arith}
-use Rattle.std.specs.Prelude.{◌==◌, filter, find, if◌then◌else◌, IsTrue, is_none}
+use Rattle.std.proofs.Common.{◌≡◌, ℕ, Bool, true, false, not, ◌&&◌, List, [], ◌∷◌, Option, Some, None, refl, sym, ◌∙◌, subst, arith}
+use Rattle.std.specs.Prelude.{◌==◌, filter}
 use Rattle.std.specs.List.{list_all}
 use Rattle.std.proofs.lemmas.Bool.Decides.{nat_tests}
-use Rattle.rinda_rules.specs.declared.object.Last.{Last}
-use Rattle.rinda_rules.specs.declared.object.Last.TheVariants as last
 use Rattle.rinda_rules.specs.declared.event.Kind.{Kind}
 use Rattle.rinda_rules.specs.declared.event.Kind.TheVariants as kind
 use Rattle.rinda_rules.specs.declared.event.Event.{Event}
@@ -12,20 +10,19 @@ use Rattle.rinda_rules.specs.declared.out.Out.{Out}
 use Rattle.rinda_rules.specs.declared.turn.Pick.{Pick}
 use Rattle.rinda_rules.specs.declared.turn.Turn.{Turn}
 use Rattle.rinda_rules.specs.declared.row.RequestState.{RequestState}
-use Rattle.rinda_rules.specs.declared.row.RequestState.TheVariants as state
 use Rattle.rinda_rules.specs.declared.plain.Entry.{Entry}
 use Rattle.rinda_rules.specs.declared.plain.Request.{Request}
 use Rattle.rinda_rules.specs.declared.plain.Notifier.{Notifier}
-use Rattle.rinda_rules.specs.Rows.{row_of, changed, without}
+use Rattle.rinda_rules.specs.Rows.{changed}
 use Rattle.rinda_rules.specs.Space.{Plain, opening, tuple_at, request_at, is_parked, is_due_tuple, is_due_request, is_due_notifier}
-use Rattle.rinda_rules.specs.Phases.{aged, advanced, aged_tuple, aged_request, aged_notifier, expires, nothing_due, nobody_waits, tuple_ended, in_state, request_in, held_by, served_as, served, served_rows, Serve}
-use Rattle.rinda_rules.specs.Cases.{Outcome, outcome}
+use Rattle.rinda_rules.specs.Phases.{aged, aged_tuple, aged_request, aged_notifier, expires, nothing_due, nobody_waits, in_state, held_by, served_as, served, served_rows, Serve}
+use Rattle.rinda_rules.specs.Cases.{outcome}
 use Rattle.rinda_rules.specs.Steps.{Case, Step, chooser, found_by}
-use Rattle.rinda_rules.specs.Settled.{Settled, Numbered, each_kept}
+use Rattle.rinda_rules.specs.Settled.{Settled, Numbered}
 use Rattle.rinda_rules.specs.Fixed.{after}
-use Rattle.rinda_rules.specs.Legal.{MayCome, LegalFrom, Legal, plain_from, plain}
+use Rattle.rinda_rules.specs.Legal.{LegalFrom, Legal, plain_from, plain}
 use Rattle.rinda_rules.proofs.Lists.{all_imp, all_map, all_filter, all_of_filter, all_true, all_changed}
-use Rattle.rinda_rules.proofs.Keeping.{Keeps, step_kept}
+use Rattle.rinda_rules.proofs.Keeping.{step_kept}
 use Rattle.rinda_rules.proofs.Sounding.{Sound, sound_keeps, sound_opening}
 
 both : (a b : Bool) → a ≡ true → b ≡ true → (a && b) ≡ true

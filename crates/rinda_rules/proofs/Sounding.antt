@@ -1,33 +1,27 @@
 -- Between the phases of a turn too, ids rise and were minted, and each held tuple is granted to its holder.
-use Rattle.std.proofs.Common.{◌≡◌, ◌≢◌, ℕ, ◌+◌, ◌<◌, Bool, true, false, cond, not, ◌&&◌, ◌||◌, List, [], ◌∷◌, ◌++◌, map, Option, Some, None, refl, sym, ◌∙◌, ap, subst, arith}
-use Rattle.std.specs.Prelude.{◌==◌, filter, find, if◌then◌else◌, IsTrue, is_none, nat_le, nat_lt}
+use Rattle.std.proofs.Common.{◌≡◌, ◌≢◌, ℕ, ◌+◌, Bool, true, false, cond, not, ◌&&◌, List, [], ◌∷◌, map, Option, Some, None, refl, sym, ◌∙◌, ap, subst, arith}
+use Rattle.std.specs.Prelude.{◌==◌, filter, if◌then◌else◌, nat_lt}
 use Rattle.std.specs.List.{list_all}
 use Rattle.std.proofs.lemmas.Bool.Decides.{nat_tests}
-use Rattle.drb_tree.specs.declared.Tree.{Tree}
 use Rattle.rinda_tuple.specs.declared.tuple.Tuple.{Tuple}
-use Rattle.rinda_tuple.specs.declared.tuple.Template.{Template}
-use Rattle.rinda_tuple.specs.declared.lease.Lease.{Lease}
 use Rattle.rinda_rules.specs.declared.object.Last.{Last}
 use Rattle.rinda_rules.specs.declared.object.Last.TheVariants as last
-use Rattle.rinda_rules.specs.declared.event.Kind.{Kind}
 use Rattle.rinda_rules.specs.declared.event.Kind.TheVariants as kind
 use Rattle.rinda_rules.specs.declared.event.Event.{Event}
-use Rattle.rinda_rules.specs.declared.event.Event.TheVariants.{Submit, Cancel, Settle}
 use Rattle.rinda_rules.specs.declared.out.Out.{Out}
 use Rattle.rinda_rules.specs.declared.row.RequestState.{RequestState}
 use Rattle.rinda_rules.specs.declared.row.RequestState.TheVariants as state
 use Rattle.rinda_rules.specs.declared.plain.Entry.{Entry}
 use Rattle.rinda_rules.specs.declared.plain.Request.{Request}
 use Rattle.rinda_rules.specs.declared.plain.Notifier.{Notifier}
-use Rattle.rinda_rules.specs.Rows.{row_of, changed, without, rising, numbered}
-use Rattle.rinda_rules.specs.Space.{Plain, opening, tuple_at, request_at, is_read, is_waiting, fits}
-use Rattle.rinda_rules.specs.Phases.{advanced, aged, aged_tuple, aged_request, aged_notifier, expires, tuple_ended, request_ended, notifier_ended, in_state, request_in, held_by, served_as}
-use Rattle.rinda_rules.specs.Cases.{with_tuple, with_request, with_notifier, new_tuple, new_request, new_notifier, minted, read_by, written, written_over, reserve, notify, asked_doubt, let_go, settle_tuple}
+use Rattle.rinda_rules.specs.Rows.{row_of, changed, without}
+use Rattle.rinda_rules.specs.Space.{Plain, opening, tuple_at, request_at}
+use Rattle.rinda_rules.specs.Phases.{aged, aged_tuple, aged_request, aged_notifier, expires, tuple_ended, request_ended, in_state, request_in, held_by, served_as}
+use Rattle.rinda_rules.specs.Cases.{with_tuple, with_request, new_tuple, new_request, new_notifier, read_by, asked_doubt, settle_tuple}
 use Rattle.rinda_rules.specs.Settled.{Numbered, grants, is_granted, is_kept, each_kept}
 use Rattle.rinda_rules.proofs.Lists.{all_imp, all_map, all_filter, all_filter_imp, all_at, all_changed, all_changed_other, all_without_row, all_append, row_has_id, row_without, row_changed_here, numbered-map, numbered-filter, numbered-changed, numbered-more, numbered-push}
-use Rattle.rinda_rules.proofs.Kept.{KeepsGrants, kept_by_grants, grants-map, grants-changed, grants-without, grants-append}
-use Rattle.rinda_rules.proofs.Keeping.{Keeps, LeasesTuple, LeasesRequest, KeepsNotifier, Serves, waits, submits, Answers, serves, cancels}
-use Rattle.rinda_rules.specs.Own.{is_of}
+use Rattle.rinda_rules.proofs.Kept.{kept_by_grants, grants-map, grants-changed, grants-without, grants-append}
+use Rattle.rinda_rules.proofs.Keeping.{Keeps, LeasesTuple, LeasesRequest, Serves, waits, submits, Answers, serves, cancels}
 
 pub record Sound (s : Plain) : Type 0 where
   pub numbered : Numbered s

@@ -1,5 +1,5 @@
 -- What each event does, between the two agings: the case table, line by line. docs/SPACE.md, Cases.
-use Rattle.std.specs.Prelude.{◌≡◌, ℕ, ◌+◌, Bool, true, false, not, ◌&&◌, ◌||◌, ◌==◌, nat_le, List, [], ◌∷◌, ◌++◌, map, filter, length, Option, Some, None, is_none, if◌then◌else◌}
+use Rattle.std.specs.Prelude.{ℕ, ◌+◌, Bool, true, false, not, ◌&&◌, ◌||◌, ◌==◌, nat_le, List, [], ◌∷◌, ◌++◌, map, filter, length, Option, Some, None, is_none, if◌then◌else◌}
 use Rattle.drb_tree.specs.declared.Tree.{Tree}
 use Rattle.drb_tree.specs.declared.Tree.TheViews.{roll-Tree}
 use Rattle.drb_tree.specs.declared.Tree.TheOpen.{Tree-F}
@@ -7,7 +7,6 @@ use Rattle.drb_tree.specs.declared.Remote.{Remote}
 use Rattle.rinda_tuple.specs.declared.tuple.Tuple.{Tuple}
 use Rattle.rinda_tuple.specs.declared.tuple.Template.{Template}
 use Rattle.rinda_tuple.specs.declared.lease.Lease.{Lease}
-use Rattle.rinda_tuple.specs.declared.lease.Life.{Life}
 use Rattle.rinda_tuple.specs.Lives.{deadline}
 use Rattle.rinda_rules.specs.declared.object.ObjectKind.{ObjectKind}
 use Rattle.rinda_rules.specs.declared.object.ObjectKind.TheVariants as object
@@ -31,7 +30,7 @@ use Rattle.rinda_rules.specs.declared.plain.Hearing.{Hearing}
 use Rattle.rinda_rules.specs.declared.plain.Hearing.TheVariants as hearing
 use Rattle.rinda_rules.specs.declared.plain.Happening.TheVariants as happening
 use Rattle.rinda_rules.specs.declared.plain.Raised.{Raised}
-use Rattle.rinda_rules.specs.Rows.{row_of, changed}
+use Rattle.rinda_rules.specs.Rows.{changed}
 use Rattle.rinda_rules.specs.Space.{Plain, Found, TheTuple, TheRequest, TheNotifier, HasEnded, IsRecycled, IsUnknown, found, fits, tuple_at, is_over, renewer_of, value_of, is_doubted, is_free, is_live, is_read, is_waiting, event_value}
 use Rattle.rinda_rules.specs.Queue.{queue}
 use Rattle.rinda_rules.specs.Phases.{raised, ended, tuple_ended, request_ended, notifier_ended, in_state, request_in, served_with}

@@ -1,8 +1,7 @@
 -- What counts as nothing, and makes no turn. docs/SPACE.md, Nothing.
-use Rattle.std.specs.Prelude.{ℕ, Bool, true, false, ◌&&◌, ◌==◌, List, [], ◌∷◌, Option, Some, None, is_none}
+use Rattle.std.specs.Prelude.{ℕ, Bool, true, false, ◌&&◌, ◌==◌, List, [], ◌∷◌, is_none}
 use Rattle.rinda_rules.specs.declared.event.Event.{Event}
 use Rattle.rinda_rules.specs.declared.event.Event.TheVariants.{Write, Reserve, Submit, Collect, Settle, Withdraw, Cancel, Renew, Look, Value, ReadAll, Notify, Pop, NextAsk, Asked, Tick}
-use Rattle.rinda_rules.specs.declared.plain.Notifier.{Notifier}
 use Rattle.rinda_rules.specs.declared.plain.Raised.{Raised}
 use Rattle.rinda_rules.specs.Space.{Plain, Found, TheTuple, TheRequest, TheNotifier, HasEnded, IsRecycled, IsUnknown, found, is_parked, is_running}
 use Rattle.rinda_rules.specs.Queue.{queue}

@@ -1,5 +1,5 @@
 -- The events that only a request's own caller makes of it. docs/SPACE.md, Cases.
-use Rattle.std.specs.Prelude.{ℕ, Bool, true, false, ◌==◌}
+use Rattle.std.specs.Prelude.{ℕ, Bool, false, ◌==◌}
 use Rattle.rinda_rules.specs.declared.event.Event.{Event}
 use Rattle.rinda_rules.specs.declared.event.Event.TheVariants.{Write, Reserve, Submit, Collect, Settle, Withdraw, Cancel, Renew, Look, Value, ReadAll, Notify, Pop, NextAsk, Asked, Tick}
 

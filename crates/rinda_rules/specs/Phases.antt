@@ -1,5 +1,5 @@
 -- The phases of a turn around the event's own case: advance, age and serve; and raising. docs/SPACE.md, Phases.
-use Rattle.std.specs.Prelude.{◌≡◌, ℕ, ◌+◌, Bool, true, false, not, ◌&&◌, ◌||◌, ◌==◌, nat_lt, max, List, [], ◌∷◌, ◌++◌, map, filter, length, Option, Some, None, is_none, if◌then◌else◌, IsTrue}
+use Rattle.std.specs.Prelude.{◌≡◌, ℕ, ◌+◌, Bool, false, not, ◌&&◌, ◌||◌, ◌==◌, nat_lt, max, List, [], ◌∷◌, ◌++◌, map, filter, length, Option, Some, None, is_none, if◌then◌else◌, IsTrue}
 use Rattle.std.specs.List.{list_any, list_all}
 use Rattle.rinda_rules.specs.declared.object.ObjectKind.{ObjectKind}
 use Rattle.rinda_rules.specs.declared.object.ObjectKind.TheVariants as object
@@ -20,7 +20,7 @@ use Rattle.rinda_rules.specs.declared.plain.Happening.{Happening}
 use Rattle.rinda_rules.specs.declared.plain.Happening.TheVariants as happening
 use Rattle.rinda_rules.specs.declared.plain.Raised.{Raised}
 use Rattle.rinda_rules.specs.declared.plain.Ended.{Ended}
-use Rattle.rinda_rules.specs.Rows.{row_of, changed, without}
+use Rattle.rinda_rules.specs.Rows.{changed, without}
 use Rattle.rinda_rules.specs.Space.{Plain, tuple_at, request_at, retained, value_of, is_due_tuple, is_due_request, is_due_notifier, is_read, is_waiting, may_have, can_be_served}
 
 -- Advance: now becomes the larger of now and the reading.

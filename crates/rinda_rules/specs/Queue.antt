@@ -1,5 +1,5 @@
 -- A notifier's queue: a part of the space's one list of events. docs/SPACE.md, Queues.
-use Rattle.std.specs.Prelude.{ℕ, List, take, drop, map, filter}
+use Rattle.std.specs.Prelude.{List, take, drop, map, filter}
 use Rattle.drb_tree.specs.declared.Tree.{Tree}
 use Rattle.rinda_rules.specs.declared.plain.Notifier.{Notifier}
 use Rattle.rinda_rules.specs.declared.plain.Hearing.{Hearing}

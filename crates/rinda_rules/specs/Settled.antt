@@ -1,12 +1,12 @@
 -- What holds of a space after each turn. docs/SPACE.md, Settled.
-use Rattle.std.specs.Prelude.{◌≡◌, ℕ, Bool, true, false, not, ◌&&◌, ◌==◌, nat_lt, List, Option, Some, None}
+use Rattle.std.specs.Prelude.{◌≡◌, ℕ, Bool, true, false, not, ◌==◌, nat_lt, List, Option, Some, None}
 use Rattle.std.specs.List.{list_all}
 use Rattle.rinda_rules.specs.declared.row.RequestState.{RequestState}
 use Rattle.rinda_rules.specs.declared.row.RequestState.TheVariants.{Reserved, Parked, Granted, Answered}
 use Rattle.rinda_rules.specs.declared.plain.Entry.{Entry}
 use Rattle.rinda_rules.specs.declared.plain.Request.{Request}
 use Rattle.rinda_rules.specs.Rows.{row_of, numbered}
-use Rattle.rinda_rules.specs.Space.{Plain, is_free}
+use Rattle.rinda_rules.specs.Space.{Plain}
 use Rattle.rinda_rules.specs.Phases.{nothing_due, nobody_waits}
 
 -- that tuple is granted

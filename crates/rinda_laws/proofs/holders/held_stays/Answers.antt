@@ -1,0 +1,5 @@
+use Rattle.rinda_laws.proofs.Letting.{held_stays}
+use Rattle.rinda_laws.proofs.holders.held_stays.Goals as goal
+
+pub returns : goal.returns
+returns c h turn owner request id legal holds owns not = held_stays h turn owner request id legal holds owns not

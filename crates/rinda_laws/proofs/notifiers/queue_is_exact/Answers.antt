@@ -1,0 +1,5 @@
+use Rattle.rinda_laws.proofs.Hearing.{queue_exact}
+use Rattle.rinda_laws.proofs.notifiers.queue_is_exact.Goals as goal
+
+pub returns : goal.returns
+returns c before later turn event pattern lease id n legal is e there runs = queue_exact before later turn event pattern lease id n legal is e there runs
