@@ -77,6 +77,3 @@ fn matches_once<L: Ledger>(t: &Template, u: &Tuple, blank: Blank) -> bool
     let mut steps = Steps::<L>::new(blank);
     matches(t, u, &mut steps)
 }
-
-#[cfg(test)]
-mod tests;
