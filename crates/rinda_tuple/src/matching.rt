@@ -77,3 +77,6 @@ fn matches_once<L: Ledger>(t: &Template, u: &Tuple, blank: Blank) -> bool
     let mut steps = Steps::<L>::new(blank);
     matches(t, u, &mut steps)
 }
+
+#[cfg(test)]
+mod tests;
