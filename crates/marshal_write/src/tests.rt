@@ -65,7 +65,7 @@ fn remote(alloc: Global, id: RefId) -> Result<Value, AllocError> {
     Ok(Value::remote(Remote { uri, id }))
 }
 
-fn spelling(value: Value, dump: &'static str) -> Spelling {
+fn expected(value: Value, dump: &'static str) -> Spelling {
     Spelling { value, dump }
 }
 
@@ -99,7 +99,7 @@ fn integers_are_written_in_the_fewest_bytes(rt: HostRuntime) -> Result<(), Fail>
     ];
     for (number, dump) in rows {
         assert!(rt;
-            is_written(rt.alloc(), &spelling(Value::int(number), dump))?,
+            is_written(rt.alloc(), &expected(Value::int(number), dump))?,
             "{number}"
         );
     }
@@ -110,25 +110,25 @@ fn integers_are_written_in_the_fewest_bytes(rt: HostRuntime) -> Result<(), Fail>
 fn every_form_has_its_spelling(rt: HostRuntime) -> Result<(), Fail> {
     let alloc = rt.alloc();
     let rows = [
-        spelling(Value::nil(), "040830"),
-        spelling(Value::boolean(true), "040854"),
-        spelling(Value::boolean(false), "040846"),
-        spelling(sym(alloc, "a")?, "04083a0661"),
-        spelling(sym(alloc, "\u{e4}")?, "0408493a07c3a4063a064554"),
-        spelling(
+        expected(Value::nil(), "040830"),
+        expected(Value::boolean(true), "040854"),
+        expected(Value::boolean(false), "040846"),
+        expected(sym(alloc, "a")?, "04083a0661"),
+        expected(sym(alloc, "\u{e4}")?, "0408493a07c3a4063a064554"),
+        expected(
             pair(alloc, sym(alloc, "a")?, sym(alloc, "a")?)?,
             "04085b073a06613b00",
         ),
-        spelling(
+        expected(
             pair(alloc, sym(alloc, "\u{e4}")?, sym(alloc, "E")?)?,
             "04085b07493a07c3a4063a0645543b06",
         ),
-        spelling(text(alloc, b"y", Code::Binary)?, "0408220679"),
-        spelling(
+        expected(text(alloc, b"y", Code::Binary)?, "0408220679"),
+        expected(
             text(alloc, b"take", Code::Ascii)?,
             "040849220974616b65063a064546",
         ),
-        spelling(
+        expected(
             pair(
                 alloc,
                 text(alloc, b"ab", Code::Utf8)?,
@@ -136,33 +136,33 @@ fn every_form_has_its_spelling(rt: HostRuntime) -> Result<(), Fail> {
             )?,
             "04085b074922076162063a0645544922076162063b0054",
         ),
-        spelling(hash(alloc, None)?, "04087b063a06616906"),
-        spelling(hash(alloc, Some(5))?, "04087d063a06616906690a"),
-        spelling(
+        expected(hash(alloc, None)?, "04087b063a06616906"),
+        expected(hash(alloc, Some(5))?, "04087d063a06616906690a"),
+        expected(
             Value::class(name(alloc, "Integer")?),
             "0408630c496e7465676572",
         ),
-        spelling(
+        expected(
             Value::module(name(alloc, "Kernel")?),
             "04086d0b4b65726e656c",
         ),
-        spelling(
+        expected(
             Value::object(name(alloc, "T")?, y_at_k(alloc)?),
             "04086f3a0654063a066b220679",
         ),
-        spelling(
+        expected(
             Value::structure(name(alloc, "T")?, y_at_k(alloc)?),
             "0408533a0654063a066b220679",
         ),
-        spelling(
+        expected(
             Value::wrapped(alloc, name(alloc, "T")?, Value::int(1))?,
             "0408553a06546906",
         ),
-        spelling(
+        expected(
             dumped(alloc, b"x", FieldList::new(alloc))?,
             "0408753a06540678",
         ),
-        spelling(
+        expected(
             pair(
                 alloc,
                 dumped(alloc, b"x", y_at_k(alloc)?)?,
@@ -170,15 +170,15 @@ fn every_form_has_its_spelling(rt: HostRuntime) -> Result<(), Fail> {
             )?,
             "04085b0749753a06540678063a066b22067949753b000678063b06220679",
         ),
-        spelling(
+        expected(
             remote(alloc, RefId::Number(1))?,
             "0408753a134452623a3a4452624f626a6563742904085b0749221b64727562793a2f2f3132372e302e302e313a38373837063a0645546906",
         ),
-        spelling(
+        expected(
             remote(alloc, RefId::Front)?,
             "0408753a134452623a3a4452624f626a6563742804085b0749221b64727562793a2f2f3132372e302e302e313a38373837063a06455430",
         ),
-        spelling(
+        expected(
             remote(alloc, RefId::Text(Text::of(alloc, b"a", Code::Utf8)?))?,
             "0408753a134452623a3a4452624f626a6563742f04085b0749221b64727562793a2f2f3132372e302e302e313a38373837063a06455449220661063b0054",
         ),

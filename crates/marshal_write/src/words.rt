@@ -41,8 +41,8 @@ impl Writer {
     fn put_utf8_symbol(&mut self, name: &[u8]) -> Result<(), WriteError>
         ensures { Writes (utf8_symbol name.now) self.old self.new result }
     {
-        if let Some(number) = self.symbols.number_of(name) {
-            return self.put_link(number);
+        if let Some(known) = self.symbols.number_of(name) {
+            return self.put_link(known);
         }
         self.put_marked(b"I:", name)?;
         self.add_symbol(name)?;
