@@ -1,0 +1,10 @@
+pub mod Ascii
+pub mod Symbols
+pub mod Loop
+pub mod WholeLists
+pub mod FirstRequest
+pub mod Taking
+pub mod FirstReply
+pub mod Writing
+pub mod Words
+pub mod Serving

@@ -1,0 +1,17 @@
+use Rattle.std.proofs.Common.{◌≡◌, ◌≤◌, Ok, refl, sym, ◌∙◌, ap, subst, rules, arith, true, false, drop}
+use Rattle.std.proofs.lemmas.Result.{err_from_is_err_and}
+use Rattle.std.specs.declared.result.Result.{Result}
+use Rattle.byteorder.specs.Endian.{big_number}
+use Rattle.drb_outside.specs.Told.{Told}
+use Rattle.drb_server.specs.declared.request.First.{First}
+use Rattle.drb_server.specs.declared.request.ReadError.{ReadError}
+use Rattle.drb_server.specs.Reads.{ReadsFirst}
+use Rattle.drb_server.proofs.Taking.{header_fault, header_none, header_cut, header_large, header_tail}
+use Rattle.drb_server.proofs.request.read_first.Goals as goal
+
+pub returns-then-size-limit-clause-first : goal.returns-then-size-limit-clause-first
+returns-then-size-limit-clause-first g c =
+    let b : c.in_ok-fill.field-0 ≡ true = grind arith in
+    let s : c.size_in-size.result ≡ big_number 4 (drop 34 c.fill.new.out.items) = rw c.deref.ensures.value at c.size_in-size.ensures in
+    let n : c.args.limit ≤ big_number 4 (drop 34 c.fill.new.out.items) = subst (λ k. c.args.limit ≤ k) s c.if-size-limit.true in
+    header_large _ _ _ _ _ _ _ c.new-header.ensures.items (c.in_ok-fill.was ∙ ap Ok b) n c.fill.ensures.bytes

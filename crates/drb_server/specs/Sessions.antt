@@ -1,0 +1,103 @@
+-- The first session: docs/SESSIONS.md, The first session.
+use Rattle.std.specs.Prelude.{◌≡◌, ℕ, ◌≤◌, List, [], ◌∷◌, ◌++◌, length, take, map, true}
+use Rattle.std.specs.declared.option.Option.{Option}
+use Rattle.drb_tree.specs.declared.Tree.{Tree}
+use Rattle.drb_outside.specs.Told.{Told}
+use Rattle.rinda_tuple.specs.declared.tuple.Tuple.{Tuple}
+use Rattle.rinda_rules.specs.declared.turn.Turn.{Turn}
+use Rattle.rinda_rules.specs.Legal.{Legal}
+use Rattle.drb_server.specs.declared.session.SessionEnd.{SessionEnd}
+use Rattle.drb_server.specs.declared.session.SessionEnd.TheVariants.{Ended, ReadFault, WriteFault, Memory, NotBuilt}
+use Rattle.drb_server.specs.Requests.{IsRequest, NoRequest}
+use Rattle.drb_server.specs.Replies.{reply_text, reference}
+use Rattle.drb_server.specs.Clocks.{ReadsAll}
+use Rattle.drb_server.specs.Turns.{first_write}
+
+-- What was served: nothing, or a request, by its bytes, its tuple and the reading of its turn.
+pub data Served : Type 0 where
+  nothing : Served
+  request : List ℕ → Tuple → ℕ → Served
+
+-- the turns that it made: the entry of the only write has the id 1
+abbrev pub turns_of : ℕ → Served → List Turn
+turns_of caller nothing = []
+turns_of caller (request bytes value at) = first_write caller at value 1 ∷ []
+
+-- the text of its reply: success, and the reference of the new entry
+abbrev pub text_of : Served → List ℕ
+text_of nothing = []
+text_of (request bytes value at) = reply_text true (reference 1)
+
+-- What stands in the input at each end, and what of it is left.
+-- Ended: nothing, or the request and nothing more. ReadFault: no whole request stands unanswered in the bytes that were
+-- taken. WriteFault and Memory: the request stands first. NotBuilt: there is something, which doesn't begin with a
+-- request, or a further byte stands after the request.
+abbrev pub In : ℕ → SessionEnd → Served → List ℕ → List ℕ → Type 0
+In limit Ended nothing left left' = left ≡ []
+In limit Ended (request bytes value at) left left' = IsRequest limit bytes value.items × (left ≡ bytes)
+In limit ReadFault nothing left left' = (taken : List ℕ) × (left ≡ taken ++ left') × NoRequest limit taken
+In limit ReadFault (request bytes value at) left left' = IsRequest limit bytes value.items × (left ≡ bytes ++ left')
+In limit WriteFault nothing left left' = ⊥
+In limit WriteFault (request bytes value at) left left' = IsRequest limit bytes value.items × (left ≡ bytes ++ left')
+In limit Memory nothing left left' = Unit {0}
+In limit Memory (request bytes value at) left left' = ⊥
+In limit NotBuilt nothing left left' = (left ≡ [] → ⊥) × NoRequest limit left
+In limit NotBuilt (request bytes value at) left left' = IsRequest limit bytes value.items × ((b : ℕ) × (rest : List ℕ) × (left ≡ bytes ++ (b ∷ rest)))
+
+-- how much of the reply was written: a front of it at WriteFault, and else all of it
+abbrev pub Out : SessionEnd → List ℕ → List ℕ → Type 0
+Out WriteFault text written = (n : ℕ) × (written ≡ take n text)
+Out Ended text written = written ≡ text
+Out ReadFault text written = written ≡ text
+Out Memory text written = written ≡ text
+Out NotBuilt text written = written ≡ text
+
+-- A whole session of one caller with its end and the turns that it made, over what the input, the output and the clock
+-- told before and after. n and m are the input's and the output's counts of faults.
+pub record Session (limit n m caller : ℕ) (end : SessionEnd) (turns : List Turn) (left left' given given' read read' : Option (List ℕ)) : Type 0 where
+  pub served : Served
+  pub made : turns ≡ turns_of caller served
+  pub input : Told left left' n (In limit end served)
+  pub output : Told given given' m (λ given given'. (written : List ℕ) × (given' ≡ given ++ written) × Out end (text_of served) written)
+  pub clock : ReadsAll read read' (map (λ t. t.at) (turns_of caller served))
+
+-- What stands in the input behind the request, and what of it is left: nothing at Ended, a further byte at NotBuilt.
+abbrev pub Behind : SessionEnd → List ℕ → List ℕ → Type 0
+Behind Ended left left' = left ≡ []
+Behind ReadFault left left' = left' ≡ left
+Behind WriteFault left left' = left' ≡ left
+Behind Memory left left' = ⊥
+Behind NotBuilt left left' = (b : ℕ) × (rest : List ℕ) × (left ≡ b ∷ rest)
+
+-- a request that was read is served: its turn, its reply, and what stands behind it
+pub record Answers (n m caller : ℕ) (end : SessionEnd) (value : Tuple) (turns : List Turn) (left left' given given' read read' : Option (List ℕ)) : Type 0 where
+  pub at : ℕ
+  pub made : turns ≡ first_write caller at value 1 ∷ []
+  pub input : Told left left' n (Behind end)
+  pub output : Told given given' m (λ given given'. (written : List ℕ) × (given' ≡ given ++ written) × Out end (reply_text true (reference 1)) written)
+  pub clock : ReadsAll read read' (at ∷ [])
+
+-- the status that names the end
+abbrev pub status_of : SessionEnd → ℕ
+status_of Ended = 0
+status_of ReadFault = 4
+status_of WriteFault = 5
+status_of Memory = 7
+status_of NotBuilt = 9
+
+-- A whole run: there is a legal history of at most one turn, of caller 0 alone, whose turns are those of a session with
+-- the end that the status names.
+pub record Runs (limit n m status : ℕ) (left left' given given' read read' : Option (List ℕ)) : Type 0 where
+  pub history : List Turn
+  pub legal : Legal history
+  pub few : length history ≤ 1
+  pub end : SessionEnd
+  pub status_is : status ≡ status_of end
+  pub session : Session limit n m 0 end history left left' given given' read read'
+
+-- the words are `stdio` alone
+abbrev pub stdio : List ℕ
+stdio = 115 ∷ 116 ∷ 100 ∷ 105 ∷ 111 ∷ []
+
+abbrev pub IsStdio : List (List ℕ) → Type 0
+IsStdio words = words ≡ stdio ∷ []
