@@ -1,5 +1,5 @@
 -- The bytes of numbers.
-use Rattle.std.proofs.Common.{◌≡◌, ℕ, zero, suc, ◌+◌, ◌-◌, ◌*◌, ◌/◌, ◌%◌, ◌^◌, ◌<◌, ◌≤◌, List, [], ◌∷◌, take, ℤ, pos, negsuc, refl, sym, ap, ◌∙◌, arith, pow-suc, div-one, true, false, nat_lt}
+use Rattle.std.proofs.Common.{◌≡◌, ℕ, zero, suc, ◌+◌, ◌-◌, ◌*◌, ◌/◌, ◌%◌, ◌^◌, ◌≤◌, List, ◌∷◌, take, ℤ, pos, negsuc, refl, sym, ap, ◌∙◌, arith, pow-suc, div-one, true, false, nat_lt}
 use Rattle.std.proofs.lemmas.Nat.{shr-shr, pow-add}
 use Rattle.std.proofs.lemmas.Bool.Decides.{nat_tests}
 use lib.Signed.{lt_z}

@@ -1,5 +1,5 @@
 -- What the forms of a value write, in other words.
-use Rattle.std.proofs.Common.{◌≡◌, ℕ, suc, zero, ◌+◌, ◌<◌, ◌≤◌, Bool, List, [], ◌∷◌, ◌++◌, length, map, drop, append-nil, sym, ap, refl, ◌∙◌, arith, Option, None, Some, option_map, is_some, if◌then◌else◌}
+use Rattle.std.proofs.Common.{◌≡◌, ℕ, suc, zero, ◌≤◌, List, [], ◌∷◌, ◌++◌, length, map, drop, append-nil, sym, ap, refl, ◌∙◌, arith, Option, None, Some, if◌then◌else◌}
 use Rattle.drb_tree.specs.declared.Tree.{Tree}
 use Rattle.drb_tree.specs.declared.Tree.TheFolds.{fold-roll-Tree, map-Tree}
 use Rattle.drb_value.specs.declared.Node.{Node}

@@ -1,5 +1,5 @@
 -- Loops of a writer: what is written, and what is left to write.
-use Rattle.std.proofs.Common.{◌≡◌, ℕ, suc, zero, ◌+◌, ◌<◌, ◌≤◌, List, [], ◌∷◌, ◌++◌, length, map, drop, get_or, append_assoc, append-nil, length-append, sym, ap, refl, ◌∙◌, arith, Result, Ok, Err, Option, None, Some, option_map}
+use Rattle.std.proofs.Common.{◌≡◌, ℕ, suc, zero, ◌+◌, ◌<◌, ◌≤◌, List, [], ◌∷◌, ◌++◌, length, map, drop, get_or, append_assoc, append-nil, length-append, sym, ap, refl, ◌∙◌, arith, Result, Err}
 use Rattle.drb_tree.specs.declared.Tree.{Tree}
 use Rattle.marshal_grammar.specs.Spelled.{Writing, these, ◌then◌, each_value, each_pair, each_field, symbol_bytes, writing}
 use Rattle.marshal_write.specs.declared.error.WriteError.{WriteError}

@@ -1,6 +1,5 @@
 -- Steps of a writer, one after the other.
-use Rattle.std.proofs.Common.{◌≡◌, ℕ, ◌+◌, ◌<◌, ◌≤◌, List, [], ◌∷◌, ◌++◌, length, append_assoc, length-append, sym, ap, refl, ◌∙◌, ◌-◌, append-nil, arith, Result, Ok, Err}
-use Rattle.std.proofs.lemmas.Grind.{common_steps}
+use Rattle.std.proofs.Common.{◌≡◌, ℕ, ◌<◌, List, [], ◌++◌, length, append_assoc, length-append, sym, ap, refl, ◌∙◌, ◌-◌, append-nil, arith, Result, Ok, Err}
 use Rattle.marshal_grammar.specs.Spelled.{Writing, these, ◌then◌, string_bytes_of, long_from}
 use Rattle.marshal_write.specs.declared.error.WriteError.{WriteError}
 use Rattle.marshal_write.specs.declared.error.WriteError.TheVariants.{TooLong}

@@ -2,15 +2,8 @@
 
 use super::*;
 use drb_value::{Code, Dumped, FieldList, Items, Name, Pairs, RefId, Remote, Text};
-use std::alloc::{AllocError, Global};
+use std::alloc::Global;
 use std::test::Fail;
-
-/// A value, and its dump in hexadecimal.
-#[derive(Drop)]
-struct Spelling {
-    value: Value,
-    dump: &'static str,
-}
 
 fn name(alloc: Global, text: &str) -> Result<Name, Fail> {
     Ok(Name::of(alloc, text.as_bytes())?)
@@ -20,61 +13,169 @@ fn sym(alloc: Global, text: &str) -> Result<Value, Fail> {
     Ok(Value::sym(name(alloc, text)?))
 }
 
-fn text(alloc: Global, bytes: &[u8], code: Code) -> Result<Value, AllocError> {
+fn text(alloc: Global, bytes: &[u8], code: Code) -> Result<Value, Fail> {
     Ok(Value::text(Text::of(alloc, bytes, code)?))
 }
 
-fn pair(alloc: Global, first: Value, second: Value) -> Result<Value, AllocError> {
+fn pair(alloc: Global, first: Value, second: Value) -> Result<Value, Fail> {
     let mut items = Items::new(alloc);
     items.push(first)?;
     items.push(second)?;
     Ok(Value::list(items))
 }
 
-fn field(alloc: Global, key: &str, value: Value) -> Result<FieldList, Fail> {
-    let mut fields = FieldList::new(alloc);
-    fields.push(name(alloc, key)?, value)?;
-    Ok(fields)
+fn symbols(alloc: Global, first: &str, second: &str) -> Result<Value, Fail> {
+    let first = sym(alloc, first)?;
+    pair(alloc, first, sym(alloc, second)?)
 }
 
-fn dumped(alloc: Global, bytes: &[u8], vars: FieldList) -> Result<Value, Fail> {
-    let class = name(alloc, "T")?;
-    if class.is_remote_class() {
-        return Ok(Value::nil());
-    }
-    Ok(Value::dumped(Dumped::of(class, Items::from_slice(alloc, bytes)?, vars)))
+fn texts(alloc: Global, bytes: &[u8]) -> Result<Value, Fail> {
+    let first = text(alloc, bytes, Code::Utf8)?;
+    pair(alloc, first, text(alloc, bytes, Code::Utf8)?)
 }
 
 /// The binary text `y` under the name `k`.
 fn y_at_k(alloc: Global) -> Result<FieldList, Fail> {
-    field(alloc, "k", text(alloc, b"y", Code::Binary)?)
+    let mut fields = FieldList::new(alloc);
+    let key = name(alloc, "k")?;
+    fields.push(key, text(alloc, b"y", Code::Binary)?)?;
+    Ok(fields)
 }
 
-/// `{:a => 1}`, and its default.
-fn hash(alloc: Global, default: Option<i128>) -> Result<Value, Fail> {
+fn object(alloc: Global) -> Result<Value, Fail> {
+    let class = name(alloc, "T")?;
+    Ok(Value::object(class, y_at_k(alloc)?))
+}
+
+fn structure(alloc: Global) -> Result<Value, Fail> {
+    let class = name(alloc, "T")?;
+    Ok(Value::structure(class, y_at_k(alloc)?))
+}
+
+fn wrapped(alloc: Global) -> Result<Value, Fail> {
+    let class = name(alloc, "T")?;
+    Ok(Value::wrapped(alloc, class, Value::int(1))?)
+}
+
+/// A value of class `T` that is dumped as the byte `x`.
+fn dumped(alloc: Global, vars: FieldList) -> Result<Value, Fail> {
+    let class = name(alloc, "T")?;
+    if class.is_remote_class() {
+        return Ok(Value::nil());
+    }
+    let bytes = Items::from_slice(alloc, b"x")?;
+    Ok(Value::dumped(Dumped::of(class, bytes, vars)))
+}
+
+fn two_dumped(alloc: Global) -> Result<Value, Fail> {
+    let first = dumped(alloc, y_at_k(alloc)?)?;
+    pair(alloc, first, dumped(alloc, y_at_k(alloc)?)?)
+}
+
+/// `{:a => 1}`.
+fn a_is_1(alloc: Global) -> Result<Pairs, Fail> {
     let mut pairs = Pairs::new(alloc);
     pairs.push(sym(alloc, "a")?, Value::int(1))?;
-    match default {
-        None => Ok(Value::hash(pairs)),
-        Some(number) => Ok(Value::hash(pairs.with_default(alloc, Value::int(number))?)),
-    }
+    Ok(pairs)
 }
 
-fn remote(alloc: Global, id: RefId) -> Result<Value, AllocError> {
+fn hash(alloc: Global) -> Result<Value, Fail> {
+    Ok(Value::hash(a_is_1(alloc)?))
+}
+
+fn hash_with_default(alloc: Global) -> Result<Value, Fail> {
+    let pairs = a_is_1(alloc)?;
+    Ok(Value::hash(pairs.with_default(alloc, Value::int(5))?))
+}
+
+fn class(alloc: Global) -> Result<Value, Fail> {
+    Ok(Value::class(name(alloc, "Integer")?))
+}
+
+fn module(alloc: Global) -> Result<Value, Fail> {
+    Ok(Value::module(name(alloc, "Kernel")?))
+}
+
+fn remote(alloc: Global, id: RefId) -> Result<Value, Fail> {
     let uri = Text::of(alloc, b"druby://127.0.0.1:8787", Code::Utf8)?;
     Ok(Value::remote(Remote { uri, id }))
 }
 
-fn expected(value: Value, dump: &'static str) -> Spelling {
-    Spelling { value, dump }
+fn remote_text(alloc: Global) -> Result<Value, Fail> {
+    let id = Text::of(alloc, b"a", Code::Utf8)?;
+    remote(alloc, RefId::Text(id))
 }
 
-/// Whether the value's dump is this one, written behind the byte `ff`.
-fn is_written(alloc: Global, spelling: &Spelling) -> Result<bool, Fail> {
+/// The dump of the value in hexadecimal, written behind the byte `ff`.
+fn written(alloc: Global, value: &Value) -> Result<String, Fail> {
     let mut out = [255u8].to_vec(alloc)?;
-    write_dump(&spelling.value, &mut out)?;
-    let text = hex::encode(alloc, out.as_slice())?;
-    Ok(text.as_str().strip_prefix("ff") == Some(spelling.dump))
+    write_dump(value, &mut out)?;
+    Ok(hex::encode(alloc, out.as_slice())?)
+}
+
+/// The value of the row of that number in `DUMPS`.
+fn value_at(alloc: Global, row: usize) -> Result<Value, Fail> {
+    match row {
+        0 => Ok(Value::nil()),
+        1 => Ok(Value::boolean(true)),
+        2 => Ok(Value::boolean(false)),
+        3 => sym(alloc, "a"),
+        4 => sym(alloc, "\u{e4}"),
+        5 => symbols(alloc, "a", "a"),
+        6 => symbols(alloc, "\u{e4}", "E"),
+        7 => symbols(alloc, "\u{e4}", "\u{e4}"),
+        8 => text(alloc, b"y", Code::Binary),
+        9 => text(alloc, b"take", Code::Ascii),
+        10 => texts(alloc, b"ab"),
+        11 => hash(alloc),
+        12 => hash_with_default(alloc),
+        13 => class(alloc),
+        14 => module(alloc),
+        15 => object(alloc),
+        16 => structure(alloc),
+        17 => wrapped(alloc),
+        18 => dumped(alloc, FieldList::new(alloc)),
+        19 => two_dumped(alloc),
+        20 => remote(alloc, RefId::Number(1)),
+        21 => remote(alloc, RefId::Front),
+        _ => remote_text(alloc),
+    }
+}
+
+const DUMPS: [&str; 23] = [
+    "040830",
+    "040854",
+    "040846",
+    "04083a0661",
+    "0408493a07c3a4063a064554",
+    "04085b073a06613b00",
+    "04085b07493a07c3a4063a0645543b06",
+    "04085b07493a07c3a4063a0645543b00",
+    "0408220679",
+    "040849220974616b65063a064546",
+    "04085b074922076162063a0645544922076162063b0054",
+    "04087b063a06616906",
+    "04087d063a06616906690a",
+    "0408630c496e7465676572",
+    "04086d0b4b65726e656c",
+    "04086f3a0654063a066b220679",
+    "0408533a0654063a066b220679",
+    "0408553a06546906",
+    "0408753a06540678",
+    "04085b0749753a06540678063a066b22067949753b000678063b06220679",
+    "0408753a134452623a3a4452624f626a6563742904085b0749221b64727562793a2f2f3132372e302e302e313a38373837063a0645546906",
+    "0408753a134452623a3a4452624f626a6563742804085b0749221b64727562793a2f2f3132372e302e302e313a38373837063a06455430",
+    "0408753a134452623a3a4452624f626a6563742f04085b0749221b64727562793a2f2f3132372e302e302e313a38373837063a06455449220661063b0054",
+];
+
+#[test]
+fn every_form_has_its_spelling(rt: HostRuntime) -> Result<(), Fail> {
+    for (row, dump) in DUMPS.iter().enumerate() {
+        let value = value_at(rt.alloc(), row)?;
+        let text = written(rt.alloc(), &value)?;
+        assert_eq!(rt; text.as_str().strip_prefix("ff"), Some(*dump), "row {row}");
+    }
+    Ok(())
 }
 
 #[test]
@@ -98,93 +199,8 @@ fn integers_are_written_in_the_fewest_bytes(rt: HostRuntime) -> Result<(), Fail>
         ),
     ];
     for (number, dump) in rows {
-        assert!(rt;
-            is_written(rt.alloc(), &expected(Value::int(number), dump))?,
-            "{number}"
-        );
-    }
-    Ok(())
-}
-
-#[test]
-fn every_form_has_its_spelling(rt: HostRuntime) -> Result<(), Fail> {
-    let alloc = rt.alloc();
-    let rows = [
-        expected(Value::nil(), "040830"),
-        expected(Value::boolean(true), "040854"),
-        expected(Value::boolean(false), "040846"),
-        expected(sym(alloc, "a")?, "04083a0661"),
-        expected(sym(alloc, "\u{e4}")?, "0408493a07c3a4063a064554"),
-        expected(
-            pair(alloc, sym(alloc, "a")?, sym(alloc, "a")?)?,
-            "04085b073a06613b00",
-        ),
-        expected(
-            pair(alloc, sym(alloc, "\u{e4}")?, sym(alloc, "E")?)?,
-            "04085b07493a07c3a4063a0645543b06",
-        ),
-        expected(text(alloc, b"y", Code::Binary)?, "0408220679"),
-        expected(
-            text(alloc, b"take", Code::Ascii)?,
-            "040849220974616b65063a064546",
-        ),
-        expected(
-            pair(
-                alloc,
-                text(alloc, b"ab", Code::Utf8)?,
-                text(alloc, b"ab", Code::Utf8)?,
-            )?,
-            "04085b074922076162063a0645544922076162063b0054",
-        ),
-        expected(hash(alloc, None)?, "04087b063a06616906"),
-        expected(hash(alloc, Some(5))?, "04087d063a06616906690a"),
-        expected(
-            Value::class(name(alloc, "Integer")?),
-            "0408630c496e7465676572",
-        ),
-        expected(
-            Value::module(name(alloc, "Kernel")?),
-            "04086d0b4b65726e656c",
-        ),
-        expected(
-            Value::object(name(alloc, "T")?, y_at_k(alloc)?),
-            "04086f3a0654063a066b220679",
-        ),
-        expected(
-            Value::structure(name(alloc, "T")?, y_at_k(alloc)?),
-            "0408533a0654063a066b220679",
-        ),
-        expected(
-            Value::wrapped(alloc, name(alloc, "T")?, Value::int(1))?,
-            "0408553a06546906",
-        ),
-        expected(
-            dumped(alloc, b"x", FieldList::new(alloc))?,
-            "0408753a06540678",
-        ),
-        expected(
-            pair(
-                alloc,
-                dumped(alloc, b"x", y_at_k(alloc)?)?,
-                dumped(alloc, b"x", y_at_k(alloc)?)?,
-            )?,
-            "04085b0749753a06540678063a066b22067949753b000678063b06220679",
-        ),
-        expected(
-            remote(alloc, RefId::Number(1))?,
-            "0408753a134452623a3a4452624f626a6563742904085b0749221b64727562793a2f2f3132372e302e302e313a38373837063a0645546906",
-        ),
-        expected(
-            remote(alloc, RefId::Front)?,
-            "0408753a134452623a3a4452624f626a6563742804085b0749221b64727562793a2f2f3132372e302e302e313a38373837063a06455430",
-        ),
-        expected(
-            remote(alloc, RefId::Text(Text::of(alloc, b"a", Code::Utf8)?))?,
-            "0408753a134452623a3a4452624f626a6563742f04085b0749221b64727562793a2f2f3132372e302e302e313a38373837063a06455449220661063b0054",
-        ),
-    ];
-    for spelling in &rows {
-        assert!(rt; is_written(alloc, spelling)?, "{}", spelling.dump);
+        let text = written(rt.alloc(), &Value::int(number))?;
+        assert_eq!(rt; text.as_str().strip_prefix("ff"), Some(dump), "{number}");
     }
     Ok(())
 }

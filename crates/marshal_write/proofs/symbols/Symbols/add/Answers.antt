@@ -1,4 +1,4 @@
-use Rattle.std.proofs.Common.{◌≡◌, ◌∙◌, ◌++◌, ◌∷◌, [], ap, ℕ, Bool, false, List, map, bytes_eq, if◌then◌else◌}
+use Rattle.std.proofs.Common.{◌∙◌, ◌++◌, ◌∷◌, [], ap, ℕ, Bool, List, map, bytes_eq, if◌then◌else◌}
 use Rattle.std.specs.List.{list_any}
 use Rattle.marshal_write.proofs.Keys.{list_any-map, same_bytes, position-none, map_push}
 use Rattle.marshal_write.proofs.symbols.Symbols.add.Goals as goal

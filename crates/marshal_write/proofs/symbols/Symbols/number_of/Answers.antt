@@ -1,6 +1,5 @@
-use Rattle.std.proofs.Common.{◌∙◌, ap, ℕ, List, position, bytes_eq, nat_eq}
+use Rattle.std.proofs.Common.{◌∙◌, ap, position, bytes_eq}
 use Rattle.marshal_write.proofs.Keys.{position-map, same_bytes}
-use lib.Pointwise.{pointwise}
 use Rattle.marshal_write.proofs.symbols.Symbols.number_of.Goals as goal
 
 pub returns : goal.returns

@@ -1,10 +1,10 @@
-use Rattle.std.proofs.Common.{◌≡◌, IsTrue, false, Option, ℕ, ◌+◌, ◌∷◌, [], List, length, map, drop, option_map, refl, sym, ap, ◌∙◌, arith, rules}
+use Rattle.std.proofs.Common.{IsTrue, false, Option, ℕ, ◌+◌, ◌∷◌, [], List, length, map, drop, option_map, sym, ap, ◌∙◌, arith, rules}
 use Rattle.drb_tree.specs.declared.Tree.{Tree}
 use Rattle.drb_tree.specs.Sizes.{depth, pairs_depth, fields_depth}
 use Rattle.drb_value.specs.declared.Node.{Node}
 use Rattle.drb_value.proofs.Measures.{list_size, pairs_size, fields_size, default_size, hash_in, list_in, object_in, struct_in, dumped_in, wrapped_in, pairs_in, default_in, fields_in, item_in, pair_in, field_in}
 use Rattle.marshal_grammar.specs.Spelled.{Writing, these, ◌then◌, long_from, string_bytes_of, symbol_bytes, each_value, each_pair, each_field, hash_bytes, fields_bytes, dumped_bytes, writing}
-use Rattle.marshal_write.specs.Written.{Writes, default_bytes, hash_mark}
+use Rattle.marshal_write.specs.Written.{default_bytes, hash_mark}
 use Rattle.marshal_write.proofs.Keys.{length-map-to}
 use Rattle.marshal_write.proofs.Steps.{writes_then, writes_as, written_as, stopped_as, written_joined, gave_up_first, gave_up_then, gave_up_third, gave_up_joined, then_assoc_4}
 use Rattle.marshal_write.proofs.Forms.{writing_at, writing_view, drop_end, hash_is, dumped_is, map_none}

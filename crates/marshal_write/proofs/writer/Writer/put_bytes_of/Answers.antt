@@ -1,5 +1,5 @@
 use Rattle.std.proofs.Common.{◌∙◌, ap, ℕ, List, take}
-use Rattle.marshal_grammar.specs.Spelled.{these, bytes_of}
+use Rattle.marshal_grammar.specs.Spelled.{these}
 use Rattle.marshal_write.proofs.Steps.{writes_as}
 use Rattle.marshal_write.proofs.Bytes.{take-bytes_low_first}
 use Rattle.marshal_write.proofs.writer.Writer.put_bytes_of.Goals as goal

@@ -1,5 +1,4 @@
-use Rattle.std.proofs.Common.{rules, ◌≡◌, Err, ◌∷◌, []}
-use Rattle.marshal_grammar.specs.Spelled.{these, ◌then◌, string_bytes_of, encoding_bytes}
+use Rattle.std.proofs.Common.{rules}
 use Rattle.marshal_write.proofs.Steps.{writes_then, gave_up_first}
 use Rattle.marshal_write.proofs.writer.Writer.put_encoded.Goals as goal
 

@@ -1,6 +1,5 @@
-use Rattle.std.proofs.Common.{rules, ◌≡◌, ap, sym, ◌∙◌, List, ℕ, Result, Err, Vec, Global}
-use Rattle.drb_tree.specs.Kept.{remote_class}
-use Rattle.marshal_grammar.specs.Spelled.{these, string_bytes_of, remote_bytes, symbol_bytes}
+use Rattle.std.proofs.Common.{rules, ap, ◌∙◌, List, ℕ, Result, Err, Vec, Global}
+use Rattle.marshal_grammar.specs.Spelled.{these, string_bytes_of, remote_bytes}
 use Rattle.marshal_write.specs.declared.error.WriteError.{WriteError}
 use Rattle.marshal_write.proofs.Steps.{writes_then, writes_as, gave_up_last, inner_stopped}
 use Rattle.marshal_write.proofs.writer.Writer.put_remote.Goals as goal
