@@ -19,15 +19,15 @@ same_fronts (x ∷ xs) ys (u ∷ us) vs n e =
     (let f = k.0 in cc, k.1)
 
 -- what the header and the rest of a request are
-record Opened (limit : ℕ) (header rest : List ℕ) (items : List Tree) (more : List ℕ) : Type 0 where
-  body : List ℕ
-  front : take 34 header ≡ before
-  sized : big_number 4 (drop 34 header) ≡ length body
-  small : length body < limit
-  plain : IsPlainDump body items
-  rest_is : rest ≡ (body ++ nil_packet) ++ more
+pub record Opened (limit : ℕ) (header rest : List ℕ) (items : List Tree) (more : List ℕ) : Type 0 where
+  pub body : List ℕ
+  pub front : take 34 header ≡ before
+  pub sized : big_number 4 (drop 34 header) ≡ length body
+  pub small : length body < limit
+  pub plain : IsPlainDump body items
+  pub rest_is : rest ≡ (body ++ nil_packet) ++ more
 
-opened : (limit : ℕ) (header rest b more : List ℕ) (items : List Tree) → length header ≡ 38 → IsRequest limit b items → header ++ rest ≡ b ++ more → Opened limit header rest items more
+pub opened : (limit : ℕ) (header rest b more : List ℕ) (items : List Tree) → length header ≡ 38 → IsRequest limit b items → header ++ rest ≡ b ++ more → Opened limit header rest items more
 opened limit header rest b more items n r e =
     let whole : header ++ rest ≡ (before ++ r.size) ++ ((r.body ++ nil_packet) ++ more) = e ∙ ap (λ t. t ++ more) r.is ∙ ap (λ t. before ++ t) (append_assoc r.size (r.body ++ nil_packet) more) in
     let k = same_fronts header rest (before ++ r.size) ((r.body ++ nil_packet) ++ more) (omega (arith, r.four, length-append before r.size)) whole in

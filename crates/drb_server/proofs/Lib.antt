@@ -8,3 +8,4 @@ pub mod FirstReply
 pub mod Writing
 pub mod Words
 pub mod Serving
+pub mod Complete

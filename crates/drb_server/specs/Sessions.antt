@@ -1,5 +1,5 @@
 -- The first session: docs/SESSIONS.md, The first session.
-use Rattle.std.specs.Prelude.{◌≡◌, ℕ, ◌≤◌, List, [], ◌∷◌, ◌++◌, length, take, map, true}
+use Rattle.std.specs.Prelude.{◌≡◌, ℕ, ◌≤◌, ◌⊎◌, List, [], ◌∷◌, ◌++◌, length, take, map, true}
 use Rattle.std.specs.declared.option.Option.{Option}
 use Rattle.drb_tree.specs.declared.Tree.{Tree}
 use Rattle.drb_outside.specs.Told.{Told}
@@ -94,6 +94,10 @@ pub record Runs (limit n m status : ℕ) (left left' given given' read read' : O
   pub end : SessionEnd
   pub status_is : status ≡ status_of end
   pub session : Session limit n m 0 end history left left' given given' read read'
+
+-- these bytes are nothing, or one request and nothing more
+abbrev pub IsWhole : ℕ → List ℕ → Type 0
+IsWhole limit bytes = (bytes ≡ []) ⊎ ((items : List Tree) × IsRequest limit bytes items)
 
 -- the words are `stdio` alone
 abbrev pub stdio : List ℕ

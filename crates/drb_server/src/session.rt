@@ -1,8 +1,8 @@
 // One session over standard input and output, and the whole run around it.
-ghost use Rattle.std.specs.Prelude.{◌≡◌, ◌≢◌, ◌↔◌, ◌≤◌, IsTrue, map, string_bytes, []};
+ghost use Rattle.std.specs.Prelude.{◌≡◌, ◌≢◌, ◌↔◌, ◌≤◌, IsTrue, map, string_bytes, [], ℕ, List, Some, ◌⊎◌};
 ghost use Rattle.drb_outside.specs.Told.{Told, Rose};
 ghost use Rattle.drb_server.specs.Replies.{reply_text, reference};
-ghost use Rattle.drb_server.specs.Sessions.{Session, Answers, Runs, IsStdio, status_of, stdio};
+ghost use Rattle.drb_server.specs.Sessions.{Session, Answers, Runs, IsStdio, IsWhole, status_of, stdio};
 
 use crate::request::{First, ReadError, is_at_end, read_first};
 use crate::space::Space;
@@ -119,6 +119,7 @@ fn run_alone<S: Source, K: Sink, C: Clock>(
     ensures other { result ≢ 1 }
     ensures in_fault { result ≡ 4 → Rose (S.faults input.old) (S.faults input.new) }
     ensures out_fault { result ≡ 5 → Rose (K.faults output.old) (K.faults output.new) }
+    ensures complete { (bytes : List ℕ) → S.left input.old ≡ Some bytes → IsWhole LOAD_LIMIT bytes → (Rose (S.faults input.old) (S.faults input.new) → ⊥) → (Rose (K.faults output.old) (K.faults output.new) → ⊥) → (result ≡ 0) ⊎ (result ≡ 7) }
 {
     let Ok(mut space) = Space::new(alloc) else {
         return 7;
@@ -165,6 +166,7 @@ pub fn stdio_run<S: Source, K: Sink, C: Clock, D: Dialer>(
     ensures run { result.0 ≢ 1 → Runs LOAD_LIMIT (S.faults input.new) (K.faults output.new) result.0 (S.left input.old) (S.left input.new) (K.given output.old) (K.given output.new) (C.readings clock.old) (C.readings clock.new) }
     ensures in_fault { result.0 ≡ 4 → Rose (S.faults input.old) (S.faults input.new) }
     ensures out_fault { result.0 ≡ 5 → Rose (K.faults output.old) (K.faults output.new) }
+    ensures complete { IsStdio (map (λ w. string_bytes w) words.now) → (bytes : List ℕ) → S.left input.old ≡ Some bytes → IsWhole LOAD_LIMIT bytes → (Rose (S.faults input.old) (S.faults input.new) → ⊥) → (Rose (K.faults output.old) (K.faults output.new) → ⊥) → (result.0 ≡ 0) ⊎ (result.0 ≡ 7) }
 {
     let _dialer = dialer;
     if !is_stdio(words) {
