@@ -1,0 +1,5 @@
+pub mod Steps
+pub mod Trees
+pub mod Changes
+pub mod Rounds
+pub mod Names
