@@ -1,13 +1,13 @@
 -- What every value keeps, and which values can be sent: docs/MARSHAL.md, Values.
-use Rattle.std.specs.Prelude.{ℕ, ◌≡◌, ◌≤◌, ◌<◌, ◌^◌, ◌+◌, ℤ, pos, ◌-ℤ◌, ◌≤ℤ◌, ◌<ℤ◌, Bool, true, false, not, ◌&&◌, ◌||◌, IsTrue, List, [], ◌∷◌, ◌++◌, length, map, All, Option, None, Some, IsUtf8, bytes_eq, codes}
+use Rattle.std.specs.Prelude.{ℕ, ◌≡◌, ◌≤◌, ◌<◌, ◌^◌, ℤ, pos, ◌-ℤ◌, ◌≤ℤ◌, ◌<ℤ◌, Bool, true, false, not, ◌&&◌, ◌||◌, IsTrue, List, [], ◌∷◌, ◌++◌, length, All, IsUtf8, bytes_eq, codes}
 use Rattle.drb_tree.specs.declared.Text.{Text}
 use Rattle.drb_tree.specs.declared.RefId.{RefId}
 use Rattle.drb_tree.specs.declared.RefId.TheVariants as R
 use Rattle.drb_tree.specs.declared.Remote.{Remote}
 use Rattle.drb_tree.specs.declared.Tree.{Tree}
-use Rattle.drb_tree.specs.declared.Tree.TheViews.{roll-Tree}
 use Rattle.drb_tree.specs.declared.Tree.TheOpen.{Tree-F}
 use Rattle.drb_tree.specs.declared.Tree.TheFolds.{every-Tree}
+use Rattle.drb_tree.specs.Trees.{nil_tree, int_tree, text_tree, list_tree}
 use Rattle.drb_tree.specs.Same.{same, all_ascii}
 use Rattle.drb_tree.specs.Sizes.{depth, nodes}
 
@@ -75,13 +75,13 @@ Within t = (depth t ≤ max_depth) × (nodes t ≤ max_nodes)
 
 -- a remote object's id as a value: nil for the front
 abbrev pub id_tree : RefId → Tree
-id_tree R.Front = roll-Tree Tree-F.Nil
-id_tree (R.Number i) = roll-Tree (Tree-F.Int i)
-id_tree (R.Text t) = roll-Tree (Tree-F.Text t)
+id_tree R.Front = nil_tree
+id_tree (R.Number i) = int_tree i
+id_tree (R.Text t) = text_tree t
 
 -- the list of uri and id, which is what a remote object dumps of itself
 abbrev pub remote_list : Remote → Tree
-remote_list r = roll-Tree (Tree-F.List (roll-Tree (Tree-F.Text r.uri) ∷ id_tree r.id ∷ []))
+remote_list r = list_tree (text_tree r.uri ∷ id_tree r.id ∷ [])
 
 -- what one value has to be for a dump, not looking into its parts; the list of a remote object has no part with pairs or a name
 abbrev pub Small : Tree-F Tree → Type 0

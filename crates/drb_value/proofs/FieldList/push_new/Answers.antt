@@ -1,0 +1,9 @@
+use Rattle.std.proofs.Common.{◌≡◌, false, ◌∙◌, ap}
+use Rattle.drb_tree.specs.Kept.{has_name}
+use Rattle.drb_value.proofs.Distinct.{names_distinct-push}
+use Rattle.drb_value.proofs.FieldList.push_new.Goals as goal
+
+pub invariant_of-self-2 : goal.invariant_of-self-2
+invariant_of-self-2 c =
+    let h : has_name c.args.name c.self.inside.list ≡ false = ap (has_name c.args.name) c.self.view_is ∙ c.requires in
+    rw c.in_ok-push.ensures.ok (names_distinct-push c.self.inside.list (c.args.name, c.args.value) c.self.invariant h)

@@ -1,0 +1,10 @@
+use Rattle.std.proofs.Common.{◌≡◌, false, List, Option, ◌∙◌, ap}
+use Rattle.drb_tree.specs.declared.Tree.{Tree}
+use Rattle.drb_tree.specs.Kept.{has_key}
+use Rattle.drb_value.proofs.Distinct.{keys_distinct-push}
+use Rattle.drb_value.proofs.Pairs.push_new.Goals as goal
+
+pub invariant_of-self-2 : goal.invariant_of-self-2
+invariant_of-self-2 c =
+    let h : has_key c.args.key c.self.inside.pairs ≡ false = ap (λ (p : List (Tree × Tree) × Option Tree). has_key c.args.key p.0) c.self.view_is ∙ c.requires in
+    rw c.in_ok-push.ensures.ok (keys_distinct-push c.self.inside.pairs (c.args.key, c.args.value) c.self.invariant h)
