@@ -3,3 +3,5 @@ pub mod Trees
 pub mod Changes
 pub mod Rounds
 pub mod Names
+pub mod Parts
+pub mod Loops

@@ -3,7 +3,7 @@ use Rattle.std.proofs.Common.{◌≡◌, ℕ, zero, suc, ◌+◌, ◌<◌, ◌�
 use Rattle.std.specs.Prelude.{slice_set}
 use Rattle.drb_tree.specs.declared.Tree.{Tree}
 use Rattle.drb_tree.specs.declared.Tree.TheOpen.{Tree-F}
-use Rattle.marshal_read.specs.Arena.{tree_in, planted, grown, trees_at, objects_at, Grows, ObjectsBelow}
+use Rattle.marshal_read.specs.Arena.{tree_in, planted, grown, trees_at, objects_at, Grows, Stands, ObjectsBelow}
 
 pub tree_in-append : (ts us : List Tree) (i : ℕ) → i < length ts → tree_in (ts ++ us) i ≡ tree_in ts i
 tree_in-append [] us i h = absurd (omega arith)
@@ -61,3 +61,10 @@ Grows-self ts = record { longer = omega arith; same = λ i h. refl }
 
 pub Grows-then : (a b c : List Tree) → Grows a b → Grows b c → Grows a c
 Grows-then a b c g h = record { longer = omega (arith, g.longer, h.longer); same = λ i lt. h.same i (omega (arith, g.longer)) ∙ g.same i lt }
+
+-- the value that was added last
+pub Stands-last : (ts : List Tree) (t : Tree) → Stands (length ts) ts (ts ++ (t ∷ []))
+Stands-last ts t = record { within = omega (arith, length-append ts (t ∷ [])); grows = Grows-one ts t }
+
+pub Stands-after : (i : ℕ) (a b c : List Tree) → Grows a b → Stands i b c → Stands i a c
+Stands-after i a b c g h = record { within = h.within; grows = Grows-then a b c g h.grows }

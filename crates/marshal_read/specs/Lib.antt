@@ -3,3 +3,6 @@ pub mod Arena
 pub mod View
 pub mod Fails
 pub mod Rounds
+pub mod Links
+pub mod Scopes
+pub mod Dumps

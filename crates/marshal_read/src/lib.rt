@@ -2,10 +2,48 @@
 #![tactic(auto)]
 
 mod arena;
-mod error;
+mod build;
+mod containers;
 mod counts;
+mod error;
+mod links;
+mod numbers;
+mod parts;
 mod reader;
+mod references;
 mod symbols;
 mod tables;
+mod values;
+
+#[cfg(test)]
+mod tests;
 
 pub use error::ReadError;
+
+ghost use Rattle.std.specs.Prelude.{◌≡◌, ℕ, ◌+◌, ◌-◌, ◌<◌, ◌^◌, ◌⊎◌, length, IfOk, Ok, Err};
+ghost use Rattle.drb_tree.specs.declared.Tree.{Tree};
+ghost use Rattle.marshal_grammar.specs.declared.refusal.Why.{Why};
+ghost use Rattle.marshal_grammar.specs.declared.refusal.Refusal.{Refusal};
+ghost use Rattle.marshal_grammar.specs.Dumps.{Refuses};
+ghost use Rattle.marshal_read.specs.Dumps.{DumpOf};
+
+use drb_value::Value;
+use reader::Reader;
+use std::alloc::Global;
+
+/// The value that the bytes begin with a dump of, and the length of that dump.
+///
+/// What follows the dump is ignored.
+/// Errors: `Refused` exactly where the grammar refuses the bytes, for that reason at that place; `Memory` at any time.
+/// Source: Ruby's marshal.c, rb_marshal_load_with_proc; docs/MARSHAL.md, Dumps.
+pub fn read_dump(alloc: Global, bytes: &[u8]) -> Result<(Value, usize), ReadError>
+    ensures dump { IfOk result (λ r. DumpOf bytes.now r.0 r.1) }
+    ensures refusal { (f : Refusal) → result ≡ Err (ReadError.Refused f) → Refuses bytes.now f.why f.at }
+    ensures every_dump { (n : ℕ) (v : Tree) → DumpOf bytes.now v n → (result ≡ Ok (v, n)) ⊎ (result ≡ Err ReadError.Memory) }
+    ensures every_refusal { (why : Why) (at : ℕ) → Refuses bytes.now why at → (result ≡ Err (ReadError.Refused (record { why = why; at = at }))) ⊎ (result ≡ Err ReadError.Memory) }
+{
+    let mut reader = Reader::new(alloc, bytes);
+    let index = reader.dump_with(alloc, false)?;
+    let value = reader.build(alloc, index)?;
+    Ok((value, bytes.len() - reader.left()))
+}

@@ -6,7 +6,7 @@ ghost use Rattle.marshal_grammar.specs.Values.{object_at};
 ghost use Rattle.marshal_grammar.specs.Symbols.{symbol_at};
 ghost use Rattle.marshal_grammar.specs.Counts.{count_nodes};
 ghost use Rattle.marshal_read.specs.Fails.{Fails, reading};
-ghost use Rattle.marshal_read.specs.Arena.{tree_in, planted};
+ghost use Rattle.marshal_read.specs.Arena.{tree_in, planted, Stands};
 ghost use Rattle.marshal_read.specs.View.{layer};
 
 use crate::arena::Entry;
@@ -57,7 +57,8 @@ impl<'a> Reader<'a> {
     /// Adds an entry at the end.
     pub fn push(&mut self, entry: Entry) -> Result<usize, AllocError>
         ensures state { OnOk result (self.new ≡ record self.old { trees = self.old.trees ++ (planted self.old.trees (layer entry) ∷ []) }) }
-        ensures index { IfOk result (λ i. i ≡ length self.old.trees) }
+        ensures value { IfOk result (λ i. tree_in self.new.trees i ≡ planted self.old.trees (layer entry)) }
+        ensures stands { IfOk result (λ i. Stands i self.old.trees self.new.trees) }
     {
         let index = self.entries.len();
         self.entries.push(entry)?;
@@ -81,6 +82,7 @@ impl<'a> Reader<'a> {
     /// The entry of a finished object; `Some(None)` where it is not finished.
     pub fn object(&self, number: i64) -> Option<Option<usize>>
         ensures object { option_map (option_map (tree_in self.now.trees)) result ≡ object_at self.now.seen number }
+        ensures within { (i : ℕ) → result ≡ Some (Some i) → i < length self.now.trees }
     {
         if number < 0 {
             return None;

@@ -1,5 +1,4 @@
-use Rattle.std.proofs.Common.{◌∙◌}
-use Rattle.marshal_read.proofs.Changes.{pushed, pushed_sound, entries_length}
+use Rattle.marshal_read.proofs.Changes.{pushed, pushed_sound, pushed_value, pushed_stands}
 use Rattle.marshal_read.proofs.reader.Reader.push.Goals as goal
 
 pub invariant_of-self-2 : goal.invariant_of-self-2
@@ -8,5 +7,8 @@ invariant_of-self-2 c = rw c.in_ok-push.ensures.ok (pushed_sound c.self.inside c
 pub returns-clause-state : goal.returns-clause-state
 returns-clause-state c = rw c.in_ok-push.ensures.ok (pushed c.self.inside c.args.self.now c.args.entry c.self.view_is c.self.invariant)
 
-pub returns-clause-index : goal.returns-clause-index
-returns-clause-index c = c.len-index.ensures ∙ entries_length c.self.inside c.args.self.now c.self.view_is
+pub returns-clause-value : goal.returns-clause-value
+returns-clause-value c = rw c.in_ok-push.ensures.ok (pushed_value c.self.inside c.args.self.now c.args.entry c.len-index.result c.self.view_is c.len-index.ensures)
+
+pub returns-clause-stands : goal.returns-clause-stands
+returns-clause-stands c = rw c.in_ok-push.ensures.ok (pushed_stands c.self.inside c.args.self.now c.args.entry c.len-index.result c.self.view_is c.len-index.ensures)
