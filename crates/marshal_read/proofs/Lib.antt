@@ -3,5 +3,11 @@ pub mod Trees
 pub mod Changes
 pub mod Rounds
 pub mod Names
-pub mod Parts
+pub mod Pieces
 pub mod Loops
+pub mod Magnitudes
+pub mod Built
+pub mod Remotes
+pub mod Opened
+pub mod Whole
+pub mod Hashes

@@ -1,19 +1,19 @@
 //! Values, by the byte that they begin with.
 
-ghost use Rattle.std.specs.Prelude.{◌≡◌, ℕ, ◌+◌, ◌≤◌, ◌<◌, suc, IfOk, IfErr, OnOk, Ok, Err, if◌then◌else◌};
+ghost use Rattle.std.specs.Prelude.{◌≡◌, ℕ, ◌+◌, ◌≤◌, ◌<◌, suc, length, IfOk, IfErr, OnOk, Ok, Err, if◌then◌else◌};
 ghost use Rattle.marshal_grammar.specs.Contexts.{opening};
 ghost use Rattle.marshal_grammar.specs.Kinds.{kind_of};
 ghost use Rattle.marshal_grammar.specs.Reading.{read};
 ghost use Rattle.marshal_grammar.specs.Dumps.{dump_with};
 ghost use Rattle.marshal_grammar.specs.Values.{body, list_value, hash_value, default_hash_value, fields_value, wrapped_value, marked_value, marked_dumped, dumped_value, held};
 ghost use Rattle.marshal_read.specs.Fails.{Fails, reading};
-ghost use Rattle.marshal_read.specs.Arena.{tree_in, Stands};
+ghost use Rattle.marshal_read.specs.Arena.{tree_in, pairs_at, PairsBelow, Stands};
 ghost use Rattle.marshal_read.specs.Scopes.{reference_in, part_in, given, held_is, fields_form};
 
 use crate::arena::Entry;
 use crate::error::{ReadError, refuse};
 use crate::reader::Reader;
-use crate::references::{Held, held_nodes, remote_of};
+use crate::references::{Held, held_nodes};
 use drb_tree::Remote;
 use marshal_grammar::kind::{Kind, kind_of};
 use marshal_grammar::refusal::Why;
@@ -144,8 +144,27 @@ impl<'a> Reader<'a> {
         self.count_nodes(at, 1)?;
         let number = self.begin_object()?;
         let parts = self.pairs(alloc, nested, room, n)?;
-        let default = self.value(alloc, nested, room)?;
+        let default = self.default_value(alloc, nested, room, &parts)?;
         Ok(self.end(number, Entry::Hash(parts, Some(default)))?)
+    }
+
+    /// The default of a hash, after these pairs, which stay as they are.
+    #[cycle(read)]
+    fn default_value(
+        &mut self,
+        alloc: Global,
+        nested: bool,
+        room: usize,
+        pairs: &Items<(usize, usize)>,
+    ) -> Result<usize, ReadError>
+        requires room { room ≤ 128 }
+        requires below { PairsBelow (length self.old.trees) pairs.now }
+        ensures ok { IfOk result (λ i. reading (part_in nested room) self.old ≡ Ok (tree_in self.new.trees i, self.new.seen, self.new.rest)) }
+        ensures same { OnOk result (pairs_at self.new.trees pairs.now ≡ pairs_at self.old.trees pairs.now) }
+        ensures stands { IfOk result (λ i. Stands i self.old.trees self.new.trees) }
+        ensures err { IfErr result (λ e. Fails e (reading (part_in nested room) self.old)) }
+    {
+        self.value(alloc, nested, room)
     }
 
     /// After `o` or `S`: a class symbol, a long, and so many fields.
@@ -236,8 +255,8 @@ impl<'a> Reader<'a> {
         let held = self.held(alloc, nested, at)?;
         let n = self.pair_count()?;
         self.count_nodes(at, held_nodes(&held))?;
-        let parts = self.fields(alloc, nested, room, n)?;
-        Ok(self.held_value(held, parts)?)
+        let variables = self.fields(alloc, nested, room, n)?;
+        Ok(self.held_value(held, variables)?)
     }
 
     /// After `u`: a class symbol, a length and bytes.
@@ -297,12 +316,9 @@ impl<'a> Reader<'a> {
         }
         let mut inner = Reader::new(alloc, bytes);
         match inner.dump_with(alloc, true) {
-            Ok(index) => {
-                let value = inner.build(alloc, index)?;
-                remote_of(alloc, &value)
-            }
+            Ok(index) => inner.remote(alloc, index),
             Err(ReadError::Memory) => Err(AllocError),
-            Err(ReadError::Refused(_)) => Ok(None),
+            Err(ReadError::Refused(_refusal)) => Ok(None),
         }
     }
 }

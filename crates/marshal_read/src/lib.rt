@@ -1,4 +1,13 @@
-//! The reader of dumps.
+//! The reader of dumps: bytes in, a value or the one refusal that holds of them out.
+//!
+//! It stands on `marshal_grammar`, which says what a dump is, and on `drb_value`. It promises that `read_dump` answers a
+//! value exactly where the bytes begin with a dump of it, and a refusal exactly where the grammar refuses them; only
+//! want of memory is free. It returns on all bytes, and takes no memory in advance of the bytes that ask for it.
+//!
+//! Values that have been read lie flat, in the order in which they ended; a value names its parts, and a link its
+//! object, by an index. The tree is built once, at the end. Read `arena.rt` and `reader.rt` for what a reader holds,
+//! `tables.rt` for how that changes, then `counts.rt`, `symbols.rt`, `values.rt`, `numbers.rt` and `links.rt` for what
+//! has no parts, `parts.rt`, `references.rt` and `containers.rt` for what has, and `build.rt` for the end.
 #![tactic(auto)]
 
 mod arena;

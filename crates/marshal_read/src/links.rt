@@ -1,6 +1,6 @@
 //! Links: copies of objects that are finished.
 
-ghost use Rattle.std.specs.Prelude.{◌≡◌, ℕ, ◌≤◌, ◌<◌, min, IfOk, IfErr, OnOk, Ok, Err, Some, None, option_map};
+ghost use Rattle.std.specs.Prelude.{◌≡◌, ℕ, ◌≤◌, ◌<◌, length, IfOk, IfErr, OnOk, Ok, Err, Some, None, option_map};
 ghost use Rattle.marshal_grammar.specs.declared.kind.Kind.TheVariants as kind;
 ghost use Rattle.marshal_grammar.specs.Counts.{count_nodes};
 ghost use Rattle.marshal_grammar.specs.Values.{link, too_deep, finished, object_at};

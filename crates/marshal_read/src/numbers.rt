@@ -65,6 +65,7 @@ fn little(bytes: &[u8]) -> Option<u128>
 }
 
 /// Whether the number of these bytes is 0.
+#[tactic(auto, using(crate::proofs::Magnitudes::zero_first, crate::proofs::Magnitudes::nonzero_first))]
 fn is_zero(bytes: &[u8]) -> bool
     ensures { result ≡ (little bytes.now == 0) }
 {

@@ -64,8 +64,8 @@ impl<'a> Reader<'a> {
                 return Err(refuse(Why::DuplicateKey, at));
             }
             keys.push(built)?;
-            let part = self.value(alloc, nested, room)?;
-            found.push((key, part))?;
+            let held = self.value(alloc, nested, room)?;
+            found.push((key, held))?;
         }
         Ok(found)
     }

@@ -5,6 +5,7 @@ ghost use Rattle.drb_tree.specs.declared.Tree.TheViews.{out-Tree};
 ghost use Rattle.marshal_grammar.specs.Dumps.{version};
 ghost use Rattle.marshal_grammar.specs.Trees.{remote_of, remote_from, id_of};
 ghost use Rattle.marshal_grammar.specs.Values.{whole, held_value, held_nodes};
+ghost use Rattle.drb_value.specs.View.{layer};
 ghost use Rattle.marshal_read.specs.Fails.{Fails, reading};
 ghost use Rattle.marshal_read.specs.Arena.{tree_in, fields_at, Stands};
 ghost use Rattle.marshal_read.specs.Scopes.{held_is};
@@ -59,6 +60,16 @@ impl<'a> Reader<'a> {
     }
 }
 
+impl<'a> Reader<'a> {
+    /// The remote object that the value of an entry stands for.
+    pub fn remote(&self, alloc: Global, entry: usize) -> Result<Option<Remote>, AllocError>
+        ensures { IfOk result (λ r. r ≡ remote_of (out-Tree (tree_in self.now.trees entry))) }
+    {
+        let value = self.build(alloc, entry)?;
+        remote_of(alloc, &value.node)
+    }
+}
+
 /// What it counts at its place.
 pub fn held_nodes(held: &Held) -> u64
     ensures { result ≡ held_nodes (held_is held.now) }
@@ -77,14 +88,14 @@ pub fn held_nodes(held: &Held) -> u64
 }
 
 /// The remote object that a list of two stands for, a text and a nil, integer or text.
-pub fn remote_of(alloc: Global, value: &Value) -> Result<Option<Remote>, AllocError>
-    ensures { IfOk result (λ r. r ≡ remote_of (out-Tree value.now)) }
+fn remote_of(alloc: Global, node: &Node) -> Result<Option<Remote>, AllocError>
+    ensures { IfOk result (λ r. r ≡ remote_of (layer node.now)) }
 {
-    match &value.node {
-        Node::List(items) => match items.as_slice() {
-            [uri, id] => remote_from(alloc, uri, id),
-            _ => Ok(None),
-        },
+    let Node::List(items) = node else {
+        return Ok(None);
+    };
+    match items.as_slice() {
+        [uri, id] => remote_from(alloc, uri, id),
         _ => Ok(None),
     }
 }
@@ -92,7 +103,13 @@ pub fn remote_of(alloc: Global, value: &Value) -> Result<Option<Remote>, AllocEr
 fn remote_from(alloc: Global, uri: &Value, id: &Value) -> Result<Option<Remote>, AllocError>
     ensures { IfOk result (λ r. r ≡ remote_from (out-Tree uri.now) (out-Tree id.now)) }
 {
-    let Node::Text(uri) = &uri.node else {
+    remote_from_nodes(alloc, &uri.node, &id.node)
+}
+
+fn remote_from_nodes(alloc: Global, uri: &Node, id: &Node) -> Result<Option<Remote>, AllocError>
+    ensures { IfOk result (λ r. r ≡ remote_from (layer uri.now) (layer id.now)) }
+{
+    let Node::Text(uri) = uri else {
         return Ok(None);
     };
     match id_of(alloc, id)? {
@@ -105,10 +122,10 @@ fn remote_from(alloc: Global, uri: &Value, id: &Value) -> Result<Option<Remote>,
 }
 
 /// The id that a value stands for: a nil, an integer or a text.
-fn id_of(alloc: Global, value: &Value) -> Result<Option<RefId>, AllocError>
-    ensures { IfOk result (λ r. r ≡ id_of (out-Tree value.now)) }
+fn id_of(alloc: Global, node: &Node) -> Result<Option<RefId>, AllocError>
+    ensures { IfOk result (λ r. r ≡ id_of (layer node.now)) }
 {
-    match &value.node {
+    match node {
         Node::Nil => Ok(Some(RefId::Front)),
         Node::Int(number) => Ok(Some(RefId::Number(*number))),
         Node::Text(text) => Ok(Some(RefId::Text(text.copy(alloc)?))),

@@ -20,6 +20,9 @@ decreases-hash_value l = scope l.nested + (10 * l.room + 9)
 abbrev pub decreases-default_hash_value : goal.decreases-default_hash_value
 decreases-default_hash_value l = scope l.nested + (10 * l.room + 9)
 
+abbrev pub decreases-default_value : goal.decreases-default_value
+decreases-default_value l = scope l.nested + (10 * l.room + 4)
+
 abbrev pub decreases-fields_value : goal.decreases-fields_value
 decreases-fields_value l = scope l.nested + (10 * l.room + 9)
 
