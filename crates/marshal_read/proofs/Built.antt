@@ -41,7 +41,7 @@ entry_at es i e lt h =
     let rest = map layer (drop (suc i) es) in
     let n : i ≡ length T = omega (arith, length-trees_of (take i es), length-take-le i es (omega arith)) in
     let split : es ≡ take i es ++ (e ∷ drop (suc i) es) =
-        sym (take-append-drop i es) ∙ ap (λ (z : List Entry). take i es ++ z) (drop-cons es i e lt ∙ ap (λ (x : Entry). x ∷ drop (suc i) es) (sym h)) in
+    sym (take-append-drop i es) ∙ ap (λ (z : List Entry). take i es ++ z) (drop-cons es i e lt ∙ ap (λ (x : Entry). x ∷ drop (suc i) es) (sym h)) in
     let whole : trees_of es ≡ grown T (layer e ∷ rest) =
-        ap trees_of split ∙ ap (grown []) (map-append layer (take i es) (e ∷ drop (suc i) es)) ∙ grown-split [] (map layer (take i es)) (layer e ∷ rest) in
+    ap trees_of split ∙ ap (grown []) (map-append layer (take i es) (e ∷ drop (suc i) es)) ∙ grown-split [] (map layer (take i es)) (layer e ∷ rest) in
     sym (ap (λ (ts : List Tree). tree_in ts i) whole ∙ grown-first T (layer e) rest i n)

@@ -92,8 +92,8 @@ pub fields_more : (total : Read (List (List ℕ × Tree))) (part : Grammar Tree)
 fields_more total part n i found first s t u key q lt so e kept d f su =
     let g : Grows s.trees u.trees = subst (λ (ts : List Tree). Grows ts u.trees) kept su.grows in
     let more : fields_at u.trees (found ++ ((key, q) ∷ [])) ≡ fields_at s.trees found ++ ((key, tree_in u.trees q) ∷ []) =
-        map-append (λ (x : List ℕ × ℕ). (x.0, tree_in u.trees x.1)) found ((key, q) ∷ [])
-        ∙ ap (λ (fs : List (List ℕ × Tree)). fs ++ ((key, tree_in u.trees q) ∷ [])) (fields_at-grown s.trees u.trees found g so.below) in
+    map-append (λ (x : List ℕ × ℕ). (x.0, tree_in u.trees x.1)) found ((key, q) ∷ [])
+    ∙ ap (λ (fs : List (List ℕ × Tree)). fs ++ ((key, tree_in u.trees q) ∷ [])) (fields_at-grown s.trees u.trees found g so.below) in
     record {
       same = so.same ∙ fields_go_on part (fields_at s.trees found) n i key (tree_in u.trees q) s t u lt e (sym d) f
           ∙ ap (λ (fs : List (List ℕ × Tree)). reading (fields part fs (n - (i + 1))) u) (sym more);

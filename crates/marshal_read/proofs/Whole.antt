@@ -89,10 +89,12 @@ pub so_err : (bs : List ℕ) (s : State) (e : ReadError) → s ≡ start bs → 
 so_err bs s e h f = fails_same e (dump_of bs) (reading (dump_with (reference_in false)) s) (read_whole bs s h) f
 
 pub so_done : (bs : List ℕ) (s t : State) (v w : Tree) (left : ℕ) → s ≡ start bs → reading (dump_with (reference_in false)) s ≡ Ok (v, t.seen, t.rest) → w ≡ v → left ≡ length t.rest → So bs (Ok (w, length bs - left))
-so_done bs s t v w left h e k l =
-    (t.seen, t.rest,
-    read_whole bs s h ∙ e ∙ ap (λ (z : Tree). Ok (z, t.seen, t.rest)) (sym k),
-    ap (λ (n : ℕ). length bs - n) l)
+so_done bs s t v w left h e k l = (
+  t.seen,
+  t.rest,
+  read_whole bs s h ∙ e ∙ ap (λ (z : Tree). Ok (z, t.seen, t.rest)) (sym k),
+  ap (λ (n : ℕ). length bs - n) l,
+)
 
 pub left_within : (bs : List ℕ) (s t : State) (v : Tree) (left : ℕ) → s ≡ start bs → reading (dump_with (reference_in false)) s ≡ Ok (v, t.seen, t.rest) → left ≡ length t.rest → left ≤ length bs
 left_within bs s t v left h e l =

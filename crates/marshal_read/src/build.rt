@@ -162,12 +162,7 @@ fn push_field(fields: &mut FieldList, name: Name, value: Value) -> Result<(), Al
 }
 
 /// What a class dumped of itself as bytes.
-fn dumped(
-    alloc: Global,
-    class: Name,
-    bytes: &[u8],
-    vars: FieldList,
-) -> Result<Dumped, AllocError>
+fn dumped(alloc: Global, class: Name, bytes: &[u8], vars: FieldList) -> Result<Dumped, AllocError>
     ensures { IfOk result (λ d. d ≡ (class, bytes.now, vars)) }
 {
     if class.is_remote_class() {

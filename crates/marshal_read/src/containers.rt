@@ -23,12 +23,7 @@ use std::alloc::{AllocError, Global};
 impl<'a> Reader<'a> {
     /// A value, where so many levels are left, itself among them.
     #[cycle(read)]
-    pub fn value(
-        &mut self,
-        alloc: Global,
-        nested: bool,
-        room: usize,
-    ) -> Result<usize, ReadError>
+    pub fn value(&mut self, alloc: Global, nested: bool, room: usize) -> Result<usize, ReadError>
         requires { room ≤ 128 }
         ensures ok { IfOk result (λ i. reading (part_in nested room) self.old ≡ Ok (tree_in self.new.trees i, self.new.seen, self.new.rest)) }
         ensures stands { IfOk result (λ i. Stands i self.old.trees self.new.trees) }
@@ -261,12 +256,7 @@ impl<'a> Reader<'a> {
 
     /// After `u`: a class symbol, a length and bytes.
     #[cycle(read)]
-    fn dumped_value(
-        &mut self,
-        alloc: Global,
-        nested: bool,
-        at: usize,
-    ) -> Result<usize, ReadError>
+    fn dumped_value(&mut self, alloc: Global, nested: bool, at: usize) -> Result<usize, ReadError>
         ensures ok { IfOk result (λ i. reading (dumped_value (reference_in nested) at) self.old ≡ Ok (tree_in self.new.trees i, self.new.seen, self.new.rest)) }
         ensures stands { IfOk result (λ i. Stands i self.old.trees self.new.trees) }
         ensures err { IfErr result (λ e. Fails e (reading (dumped_value (reference_in nested) at) self.old)) }

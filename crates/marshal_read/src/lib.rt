@@ -22,12 +22,9 @@ mod reader;
 mod references;
 mod symbols;
 mod tables;
-mod values;
-
 #[cfg(test)]
 mod tests;
-
-pub use error::ReadError;
+mod values;
 
 ghost use Rattle.std.specs.Prelude.{◌≡◌, ℕ, ◌+◌, ◌-◌, ◌<◌, ◌^◌, ◌⊎◌, length, IfOk, Ok, Err};
 ghost use Rattle.drb_tree.specs.declared.Tree.{Tree};
@@ -37,6 +34,7 @@ ghost use Rattle.marshal_grammar.specs.Dumps.{Refuses};
 ghost use Rattle.marshal_read.specs.Dumps.{DumpOf};
 
 use drb_value::Value;
+pub use error::ReadError;
 use reader::Reader;
 use std::alloc::Global;
 

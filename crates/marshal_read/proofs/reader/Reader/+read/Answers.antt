@@ -121,7 +121,7 @@ value-returns-clause-err t c =
 pub remote_in-returns-in-Ok : goal.remote_in-returns-in-Ok
 remote_in-returns-in-Ok t c =
     let s : read (dump_with (reference_in true)) opening c.args.bytes.now ≡ Ok (tree_in c.dump_with.new.self.trees c.in-Ok.index, c.dump_with.new.self.seen, c.dump_with.new.self.rest) =
-        ap (λ (z : State). reading (dump_with (reference_in true)) z) (sym c.new-inner.ensures) ∙ c.in-Ok.ensures.ok in
+    ap (λ (z : State). reading (dump_with (reference_in true)) z) (sym c.new-inner.ensures) ∙ c.in-Ok.ensures.ok in
     IfOk-weaker c.remote.result (λ (r : Option Remote). r ≡ remote_of (out-Tree (tree_in c.dump_with.new.self.trees c.in-Ok.index))) (λ (r : Option Remote). r ≡ given (read (reference_in c.args.nested) opening c.args.bytes.now))
     (λ r e. e ∙ given_ok c.args.nested c.args.bytes.now c.dump_with.new.self.rest (tree_in c.dump_with.new.self.trees c.in-Ok.index) c.dump_with.new.self.seen c.if-nested.false s)
     c.remote.ensures
@@ -131,7 +131,7 @@ remote_in-returns t c =
     let F : ReadError → Type 0 = λ e. Fails e (reading (dump_with (reference_in true)) c.new-inner.result) in
     let h : reading (dump_with (reference_in true)) c.new-inner.result ≡ Err c.in-Err-Refused._refusal = subst F c.in-Err-Refused.field-0-is c.in-Err-Refused.ensures.err in
     let s : read (dump_with (reference_in true)) opening c.args.bytes.now ≡ Err c.in-Err-Refused._refusal =
-        ap (λ (z : State). reading (dump_with (reference_in true)) z) (sym c.new-inner.ensures) ∙ h in
+    ap (λ (z : State). reading (dump_with (reference_in true)) z) (sym c.new-inner.ensures) ∙ h in
     given_err c.args.nested c.args.bytes.now c.in-Err-Refused._refusal c.if-nested.false s
 
 pub default_hash_value-returns-clause-ok : goal.default_hash_value-returns-clause-ok
