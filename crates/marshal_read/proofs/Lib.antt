@@ -1,0 +1,13 @@
+pub mod Steps
+pub mod Trees
+pub mod Changes
+pub mod Rounds
+pub mod Names
+pub mod Pieces
+pub mod Loops
+pub mod Magnitudes
+pub mod Built
+pub mod Remotes
+pub mod Opened
+pub mod Whole
+pub mod Hashes

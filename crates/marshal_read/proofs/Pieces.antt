@@ -1,0 +1,177 @@
+-- Parts of values, one after the other.
+use Rattle.std.proofs.Common.{◌≡◌, ℕ, zero, suc, ◌+◌, ◌-◌, ◌<◌, ◌≤◌, List, [], ◌∷◌, ◌++◌, append_assoc, length, map, Bool, true, false, not, ◌||◌, Ok, Err, refl, sym, ap, ◌∙◌, subst, arith}
+use Rattle.std.proofs.lemmas.List.{map-append, append-nil}
+use Rattle.drb_tree.specs.declared.Tree.{Tree}
+use Rattle.drb_tree.specs.Same.{same}
+use Rattle.drb_tree.specs.Kept.{has_key, has_name}
+use Rattle.marshal_grammar.specs.declared.refusal.Refusal.{Refusal}
+use Rattle.marshal_grammar.specs.declared.refusal.Why.TheVariants as why
+use Rattle.marshal_grammar.specs.Contexts.{Context}
+use Rattle.marshal_grammar.specs.Grammar.{Grammar, must, ◌>>=◌, ◌>>◌}
+use Rattle.marshal_grammar.specs.Reading.{Read, read, next, refuse}
+use Rattle.marshal_grammar.specs.Symbols.{name}
+use Rattle.marshal_grammar.specs.Values.{values, pairs, fields}
+use Rattle.marshal_read.specs.declared.error.ReadError.{ReadError}
+use Rattle.marshal_read.specs.State.{State}
+use Rattle.marshal_read.specs.Fails.{Fails, reading}
+use Rattle.marshal_read.specs.Arena.{tree_in, trees_at, pairs_at, fields_at, keys_of, key_in, Below, PairsBelow, FieldsBelow, Grows}
+use Rattle.marshal_read.proofs.Steps.{then_ok, then_err, fails_as}
+
+-- the values of earlier indices stay
+pub trees_at-grown : (a b : List Tree) (is : List ℕ) → Grows a b → Below (length a) is → trees_at b is ≡ trees_at a is
+trees_at-grown a b [] g h = refl
+trees_at-grown a b (i ∷ is) g h = rw (g.same i h.0, trees_at-grown a b is g h.1) refl
+
+pub pairs_at-grown : (a b : List Tree) (ps : List (ℕ × ℕ)) → Grows a b → PairsBelow (length a) ps → pairs_at b ps ≡ pairs_at a ps
+pairs_at-grown a b [] g h = refl
+pairs_at-grown a b (p ∷ ps) g h = rw (g.same p.0 h.0.0, g.same p.1 h.0.1, pairs_at-grown a b ps g h.1) refl
+
+pub fields_at-grown : (a b : List Tree) (fs : List (List ℕ × ℕ)) → Grows a b → FieldsBelow (length a) fs → fields_at b fs ≡ fields_at a fs
+fields_at-grown a b [] g h = refl
+fields_at-grown a b (f ∷ fs) g h = rw (g.same f.1 h.0, fields_at-grown a b fs g h.1) refl
+
+pub Below-more : (n m : ℕ) (is : List ℕ) (i : ℕ) → n ≤ m → Below n is → i < m → Below m (is ++ (i ∷ []))
+Below-more n m [] i le h lt = (lt, tt)
+Below-more n m (j ∷ is) i le h lt = (omega (arith, h.0), Below-more n m is i le h.1 lt)
+
+pub PairsBelow-more : (n m : ℕ) (ps : List (ℕ × ℕ)) (i j : ℕ) → n ≤ m → PairsBelow n ps → i < m → j < m → PairsBelow m (ps ++ ((i, j) ∷ []))
+PairsBelow-more n m [] i j le h lt lu = ((lt, lu), tt)
+PairsBelow-more n m (p ∷ ps) i j le h lt lu = ((omega (arith, h.0.0), omega (arith, h.0.1)), PairsBelow-more n m ps i j le h.1 lt lu)
+
+pub FieldsBelow-more : (n m : ℕ) (fs : List (List ℕ × ℕ)) (s : List ℕ) (i : ℕ) → n ≤ m → FieldsBelow n fs → i < m → FieldsBelow m (fs ++ ((s, i) ∷ []))
+FieldsBelow-more n m [] s i le h lt = (lt, tt)
+FieldsBelow-more n m (f ∷ fs) s i le h lt = (omega (arith, h.0), FieldsBelow-more n m fs s i le h.1 lt)
+
+pub key_in-keys_of : (k : Tree) (ps : List (Tree × Tree)) → key_in k (keys_of ps) ≡ has_key k ps
+key_in-keys_of k [] = refl
+key_in-keys_of k (p ∷ ps) = ap (λ (b : Bool). same p.0 k || b) (key_in-keys_of k ps)
+
+-- values that were read before others
+abbrev pub with_front : List Tree → Read (List Tree) → Read (List Tree)
+with_front front r = next r (λ vs c bs. Ok (front ++ vs, c, bs))
+
+regroup : (front : List Tree) (v : Tree) (r : Read (List Tree)) → with_front front (next r (λ vs c bs. Ok (v ∷ vs, c, bs))) ≡ with_front (front ++ (v ∷ [])) r
+regroup front v (Ok x) = ap (λ (vs : List Tree). Ok (vs, x.1, x.2)) (simp append_assoc)
+regroup front v (Err f) = refl
+
+values_rest : Grammar Tree → ℕ → Tree → Context → List ℕ → Read (List Tree)
+values_rest part m v c bs = next (read (values part m) c bs) (λ vs d r. Ok (v ∷ vs, d, r))
+
+pub values_go_on : (part : Grammar Tree) (front : List Tree) (n i : ℕ) (v : Tree) (s t : State) → i < n → reading part s ≡ Ok (v, t.seen, t.rest)
+    → with_front front (reading (values part (n - i)) s) ≡ with_front (front ++ (v ∷ [])) (reading (values part (n - (i + 1))) t)
+unfolding values_rest
+values_go_on part front n i v s t lt e =
+    let k : n - i ≡ suc (n - (i + 1)) = omega arith in
+    ap (λ (j : ℕ). with_front front (reading (values part j) s)) k
+    ∙ ap (with_front front) (then_ok (reading part s) (values_rest part (n - (i + 1))) v t.seen t.rest e)
+    ∙ regroup front v (reading (values part (n - (i + 1))) t)
+
+pub values_fail : (r : ReadError) (part : Grammar Tree) (front : List Tree) (n i : ℕ) (s : State) → i < n → Fails r (reading part s)
+    → Fails r (with_front front (reading (values part (n - i)) s))
+unfolding values_rest
+values_fail r part front n i s lt f =
+    let k : n - i ≡ suc (n - (i + 1)) = omega arith in
+    fails_as r (reading part s) (with_front front (reading (values part (n - i)) s))
+    (λ q e. ap (λ (j : ℕ). with_front front (reading (values part j) s)) k ∙ ap (with_front front) (then_err (reading part s) (values_rest part (n - (i + 1))) q e))
+    f
+
+pub values_end : (part : Grammar Tree) (front : List Tree) (n i : ℕ) (s : State) → n ≤ i → with_front front (reading (values part (n - i)) s) ≡ Ok (front, s.seen, s.rest)
+values_end part front n i s le =
+    let k : n - i ≡ 0 = omega arith in
+    ap (λ (j : ℕ). with_front front (reading (values part j) s)) k ∙ ap (λ (vs : List Tree). Ok (vs, s.seen, s.rest)) (append-nil front)
+
+-- after a key, where b says whether it was there before
+pairs_with : Grammar Tree → List (Tree × Tree) → ℕ → ℕ → Bool → Tree → Context → List ℕ → Read (List (Tree × Tree))
+pairs_with part before m at b key c bs = read (must (not b) why.DuplicateKey at >> (part >>= (λ v. pairs part (before ++ ((key, v) ∷ [])) m))) c bs
+
+pairs_first : (part : Grammar Tree) (before : List (Tree × Tree)) (n i : ℕ) (b : Bool) (key : Tree) (s t : State) → i < n → reading part s ≡ Ok (key, t.seen, t.rest)
+    → has_key key before ≡ b → reading (pairs part before (n - i)) s ≡ pairs_with part before (n - (i + 1)) s.seen.at b key t.seen t.rest
+unfolding pairs_with
+pairs_first part before n i b key s t lt e d =
+    let k : n - i ≡ suc (n - (i + 1)) = omega arith in
+    ap (λ (j : ℕ). reading (pairs part before j) s) k
+    ∙ then_ok (reading part s) (λ x. pairs_with part before (n - (i + 1)) s.seen.at (has_key x before) x) key t.seen t.rest e
+    ∙ ap (λ (z : Bool). pairs_with part before (n - (i + 1)) s.seen.at z key t.seen t.rest) d
+
+pub pairs_fail_first : (r : ReadError) (part : Grammar Tree) (before : List (Tree × Tree)) (n i : ℕ) (s : State) → i < n → Fails r (reading part s)
+    → Fails r (reading (pairs part before (n - i)) s)
+unfolding pairs_with
+pairs_fail_first r part before n i s lt f =
+    let k : n - i ≡ suc (n - (i + 1)) = omega arith in
+    fails_as r (reading part s) (reading (pairs part before (n - i)) s)
+    (λ q e. ap (λ (j : ℕ). reading (pairs part before j) s) k ∙ then_err (reading part s) (λ x. pairs_with part before (n - (i + 1)) s.seen.at (has_key x before) x) q e)
+    f
+
+pub pairs_duplicate : (part : Grammar Tree) (before : List (Tree × Tree)) (n i : ℕ) (key : Tree) (s t : State) → i < n → reading part s ≡ Ok (key, t.seen, t.rest)
+    → has_key key before ≡ true → reading (pairs part before (n - i)) s ≡ refuse why.DuplicateKey s.seen.at
+unfolding pairs_with
+pairs_duplicate part before n i key s t lt e d = pairs_first part before n i true key s t lt e d
+
+pub pairs_fail_value : (r : ReadError) (part : Grammar Tree) (before : List (Tree × Tree)) (n i : ℕ) (key : Tree) (s t : State) → i < n → reading part s ≡ Ok (key, t.seen, t.rest)
+    → has_key key before ≡ false → Fails r (reading part t) → Fails r (reading (pairs part before (n - i)) s)
+unfolding pairs_with
+pairs_fail_value r part before n i key s t lt e d f =
+    fails_as r (reading part t) (reading (pairs part before (n - i)) s)
+    (λ q h. pairs_first part before n i false key s t lt e d ∙ then_err (reading part t) (λ v. read (pairs part (before ++ ((key, v) ∷ [])) (n - (i + 1)))) q h)
+    f
+
+pub pairs_go_on : (part : Grammar Tree) (before : List (Tree × Tree)) (n i : ℕ) (key : Tree) (v : Tree) (s t u : State) → i < n → reading part s ≡ Ok (key, t.seen, t.rest)
+    → has_key key before ≡ false → reading part t ≡ Ok (v, u.seen, u.rest)
+    → reading (pairs part before (n - i)) s ≡ reading (pairs part (before ++ ((key, v) ∷ [])) (n - (i + 1))) u
+unfolding pairs_with
+pairs_go_on part before n i key v s t u lt e d h =
+    pairs_first part before n i false key s t lt e d
+    ∙ then_ok (reading part t) (λ x. read (pairs part (before ++ ((key, x) ∷ [])) (n - (i + 1)))) v u.seen u.rest h
+
+pub pairs_end : (part : Grammar Tree) (before : List (Tree × Tree)) (n i : ℕ) (s : State) → n ≤ i → reading (pairs part before (n - i)) s ≡ Ok (before, s.seen, s.rest)
+pairs_end part before n i s le =
+    let k : n - i ≡ 0 = omega arith in
+    ap (λ (j : ℕ). reading (pairs part before j) s) k
+
+-- after a name, where b says whether it was there before
+fields_with : Grammar Tree → List (List ℕ × Tree) → ℕ → ℕ → Bool → List ℕ → Context → List ℕ → Read (List (List ℕ × Tree))
+fields_with part before m at b key c bs = read (must (not b) why.DuplicateKey at >> (part >>= (λ v. fields part (before ++ ((key, v) ∷ [])) m))) c bs
+
+fields_first : (part : Grammar Tree) (before : List (List ℕ × Tree)) (n i : ℕ) (b : Bool) (key : List ℕ) (s t : State) → i < n → reading name s ≡ Ok (key, t.seen, t.rest)
+    → has_name key before ≡ b → reading (fields part before (n - i)) s ≡ fields_with part before (n - (i + 1)) s.seen.at b key t.seen t.rest
+unfolding fields_with
+fields_first part before n i b key s t lt e d =
+    let k : n - i ≡ suc (n - (i + 1)) = omega arith in
+    ap (λ (j : ℕ). reading (fields part before j) s) k
+    ∙ then_ok (reading name s) (λ x. fields_with part before (n - (i + 1)) s.seen.at (has_name x before) x) key t.seen t.rest e
+    ∙ ap (λ (z : Bool). fields_with part before (n - (i + 1)) s.seen.at z key t.seen t.rest) d
+
+pub fields_fail_first : (r : ReadError) (part : Grammar Tree) (before : List (List ℕ × Tree)) (n i : ℕ) (s : State) → i < n → Fails r (reading name s)
+    → Fails r (reading (fields part before (n - i)) s)
+unfolding fields_with
+fields_fail_first r part before n i s lt f =
+    let k : n - i ≡ suc (n - (i + 1)) = omega arith in
+    fails_as r (reading name s) (reading (fields part before (n - i)) s)
+    (λ q e. ap (λ (j : ℕ). reading (fields part before j) s) k ∙ then_err (reading name s) (λ x. fields_with part before (n - (i + 1)) s.seen.at (has_name x before) x) q e)
+    f
+
+pub fields_duplicate : (part : Grammar Tree) (before : List (List ℕ × Tree)) (n i : ℕ) (key : List ℕ) (s t : State) → i < n → reading name s ≡ Ok (key, t.seen, t.rest)
+    → has_name key before ≡ true → reading (fields part before (n - i)) s ≡ refuse why.DuplicateKey s.seen.at
+unfolding fields_with
+fields_duplicate part before n i key s t lt e d = fields_first part before n i true key s t lt e d
+
+pub fields_fail_value : (r : ReadError) (part : Grammar Tree) (before : List (List ℕ × Tree)) (n i : ℕ) (key : List ℕ) (s t : State) → i < n → reading name s ≡ Ok (key, t.seen, t.rest)
+    → has_name key before ≡ false → Fails r (reading part t) → Fails r (reading (fields part before (n - i)) s)
+unfolding fields_with
+fields_fail_value r part before n i key s t lt e d f =
+    fails_as r (reading part t) (reading (fields part before (n - i)) s)
+    (λ q h. fields_first part before n i false key s t lt e d ∙ then_err (reading part t) (λ v. read (fields part (before ++ ((key, v) ∷ [])) (n - (i + 1)))) q h)
+    f
+
+pub fields_go_on : (part : Grammar Tree) (before : List (List ℕ × Tree)) (n i : ℕ) (key : List ℕ) (v : Tree) (s t u : State) → i < n → reading name s ≡ Ok (key, t.seen, t.rest)
+    → has_name key before ≡ false → reading part t ≡ Ok (v, u.seen, u.rest)
+    → reading (fields part before (n - i)) s ≡ reading (fields part (before ++ ((key, v) ∷ [])) (n - (i + 1))) u
+unfolding fields_with
+fields_go_on part before n i key v s t u lt e d h =
+    fields_first part before n i false key s t lt e d
+    ∙ then_ok (reading part t) (λ x. read (fields part (before ++ ((key, x) ∷ [])) (n - (i + 1)))) v u.seen u.rest h
+
+pub fields_end : (part : Grammar Tree) (before : List (List ℕ × Tree)) (n i : ℕ) (s : State) → n ≤ i → reading (fields part before (n - i)) s ≡ Ok (before, s.seen, s.rest)
+fields_end part before n i s le =
+    let k : n - i ≡ 0 = omega arith in
+    ap (λ (j : ℕ). reading (fields part before j) s) k

@@ -1,0 +1,16 @@
+-- What a reader's error says.
+use Rattle.std.specs.Prelude.{◌≡◌, Err}
+use Rattle.marshal_grammar.specs.Grammar.{Grammar}
+use Rattle.marshal_grammar.specs.Reading.{Read, read}
+use Rattle.marshal_read.specs.declared.error.ReadError.{ReadError}
+use Rattle.marshal_read.specs.declared.error.ReadError.TheVariants as error
+use Rattle.marshal_read.specs.State.{State}
+
+-- reading met this refusal, unless memory ran out
+abbrev pub Fails : {A : Type 0} → ReadError → Read A → Type 0
+Fails error.Memory r = Unit {0}
+Fails (error.Refused f) r = r ≡ Err f
+
+-- what a piece of the grammar gives from here
+abbrev pub reading : {A : Type 0} → Grammar A → State → Read A
+reading g s = read g s.seen s.rest

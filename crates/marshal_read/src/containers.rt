@@ -1,0 +1,314 @@
+//! Values, by the byte that they begin with.
+
+ghost use Rattle.std.specs.Prelude.{◌≡◌, ℕ, ◌+◌, ◌≤◌, ◌<◌, suc, length, IfOk, IfErr, OnOk, Ok, Err, if◌then◌else◌};
+ghost use Rattle.marshal_grammar.specs.Contexts.{opening};
+ghost use Rattle.marshal_grammar.specs.Kinds.{kind_of};
+ghost use Rattle.marshal_grammar.specs.Reading.{read};
+ghost use Rattle.marshal_grammar.specs.Dumps.{dump_with};
+ghost use Rattle.marshal_grammar.specs.Values.{body, list_value, hash_value, default_hash_value, fields_value, wrapped_value, marked_value, marked_dumped, dumped_value, held};
+ghost use Rattle.marshal_read.specs.Fails.{Fails, reading};
+ghost use Rattle.marshal_read.specs.Arena.{tree_in, pairs_at, PairsBelow, Stands};
+ghost use Rattle.marshal_read.specs.Scopes.{reference_in, part_in, given, held_is, fields_form};
+
+use crate::arena::Entry;
+use crate::error::{ReadError, refuse};
+use crate::reader::Reader;
+use crate::references::{Held, held_nodes};
+use drb_tree::Remote;
+use marshal_grammar::kind::{Kind, kind_of};
+use marshal_grammar::refusal::Why;
+use sqlite_items::Items;
+use std::alloc::{AllocError, Global};
+
+impl<'a> Reader<'a> {
+    /// A value, where so many levels are left, itself among them.
+    #[cycle(read)]
+    pub fn value(&mut self, alloc: Global, nested: bool, room: usize) -> Result<usize, ReadError>
+        requires { room ≤ 128 }
+        ensures ok { IfOk result (λ i. reading (part_in nested room) self.old ≡ Ok (tree_in self.new.trees i, self.new.seen, self.new.rest)) }
+        ensures stands { IfOk result (λ i. Stands i self.old.trees self.new.trees) }
+        ensures err { IfErr result (λ e. Fails e (reading (part_in nested room) self.old)) }
+    {
+        let at = self.at();
+        let first = self.byte()?;
+        let Some(kind) = kind_of(first) else {
+            return Err(refuse(Why::BadType(first), at));
+        };
+        if room == 0 {
+            return self.too_deep(alloc, kind, at);
+        }
+        self.body(alloc, nested, room - 1, at, kind)
+    }
+
+    /// What stands after the type byte at this place; `room` levels are left below it.
+    #[cycle(read)]
+    #[tactic(auto, unfolding(marshal_grammar::specs::Values::body))]
+    fn body(
+        &mut self,
+        alloc: Global,
+        nested: bool,
+        room: usize,
+        at: usize,
+        kind: Kind,
+    ) -> Result<usize, ReadError>
+        requires { room < 128 }
+        ensures ok { IfOk result (λ i. reading (body (reference_in nested) (part_in nested room) (suc room) kind at) self.old ≡ Ok (tree_in self.new.trees i, self.new.seen, self.new.rest)) }
+        ensures stands { IfOk result (λ i. Stands i self.old.trees self.new.trees) }
+        ensures err { IfErr result (λ e. Fails e (reading (body (reference_in nested) (part_in nested room) (suc room) kind at) self.old)) }
+    {
+        match kind {
+            Kind::Nil => self.simple(at, Entry::Nil),
+            Kind::True => self.simple(at, Entry::Bool(true)),
+            Kind::False => self.simple(at, Entry::Bool(false)),
+            Kind::Int => self.small_int(at),
+            Kind::Big => self.big_int(at),
+            Kind::Symbol => self.plain_symbol_value(alloc, at),
+            Kind::SymbolLink => self.linked_symbol_value(alloc, at),
+            Kind::Marked => self.marked_value(alloc, nested, room, at),
+            Kind::Text => self.plain_text(alloc, at),
+            Kind::List => self.list_value(alloc, nested, room, at),
+            Kind::Hash => self.hash_value(alloc, nested, room, at),
+            Kind::HashWithDefault => self.default_hash_value(alloc, nested, room, at),
+            Kind::Class => self.class(alloc, at),
+            Kind::Module => self.module(alloc, at),
+            Kind::Object => self.fields_value(alloc, nested, room, at, false),
+            Kind::Struct => self.fields_value(alloc, nested, room, at, true),
+            Kind::Dumped => self.dumped_value(alloc, nested, at),
+            Kind::Wrapped => self.wrapped_value(alloc, nested, room, at),
+            Kind::Link => self.link(alloc, room + 1, at),
+        }
+    }
+
+    /// After `[`: a long, and so many values.
+    #[cycle(read)]
+    fn list_value(
+        &mut self,
+        alloc: Global,
+        nested: bool,
+        room: usize,
+        at: usize,
+    ) -> Result<usize, ReadError>
+        requires { room < 128 }
+        ensures ok { IfOk result (λ i. reading (list_value (part_in nested room) at) self.old ≡ Ok (tree_in self.new.trees i, self.new.seen, self.new.rest)) }
+        ensures stands { IfOk result (λ i. Stands i self.old.trees self.new.trees) }
+        ensures err { IfErr result (λ e. Fails e (reading (list_value (part_in nested room) at) self.old)) }
+    {
+        let n = self.count()?;
+        self.count_nodes(at, 1)?;
+        let number = self.begin_object()?;
+        let parts = self.values(alloc, nested, room, n)?;
+        Ok(self.end(number, Entry::List(parts))?)
+    }
+
+    /// After `{`: a long, and so many pairs.
+    #[cycle(read)]
+    fn hash_value(
+        &mut self,
+        alloc: Global,
+        nested: bool,
+        room: usize,
+        at: usize,
+    ) -> Result<usize, ReadError>
+        requires { room < 128 }
+        ensures ok { IfOk result (λ i. reading (hash_value (part_in nested room) at) self.old ≡ Ok (tree_in self.new.trees i, self.new.seen, self.new.rest)) }
+        ensures stands { IfOk result (λ i. Stands i self.old.trees self.new.trees) }
+        ensures err { IfErr result (λ e. Fails e (reading (hash_value (part_in nested room) at) self.old)) }
+    {
+        let n = self.pair_count()?;
+        self.count_nodes(at, 1)?;
+        let number = self.begin_object()?;
+        let parts = self.pairs(alloc, nested, room, n)?;
+        Ok(self.end(number, Entry::Hash(parts, None))?)
+    }
+
+    /// After `}`: a long, so many pairs, and the default.
+    #[cycle(read)]
+    fn default_hash_value(
+        &mut self,
+        alloc: Global,
+        nested: bool,
+        room: usize,
+        at: usize,
+    ) -> Result<usize, ReadError>
+        requires { room < 128 }
+        ensures ok { IfOk result (λ i. reading (default_hash_value (part_in nested room) at) self.old ≡ Ok (tree_in self.new.trees i, self.new.seen, self.new.rest)) }
+        ensures stands { IfOk result (λ i. Stands i self.old.trees self.new.trees) }
+        ensures err { IfErr result (λ e. Fails e (reading (default_hash_value (part_in nested room) at) self.old)) }
+    {
+        let n = self.pair_count()?;
+        self.count_nodes(at, 1)?;
+        let number = self.begin_object()?;
+        let parts = self.pairs(alloc, nested, room, n)?;
+        let default = self.default_value(alloc, nested, room, &parts)?;
+        Ok(self.end(number, Entry::Hash(parts, Some(default)))?)
+    }
+
+    /// The default of a hash, after these pairs, which stay as they are.
+    #[cycle(read)]
+    fn default_value(
+        &mut self,
+        alloc: Global,
+        nested: bool,
+        room: usize,
+        pairs: &Items<(usize, usize)>,
+    ) -> Result<usize, ReadError>
+        requires room { room ≤ 128 }
+        requires below { PairsBelow (length self.old.trees) pairs.now }
+        ensures ok { IfOk result (λ i. reading (part_in nested room) self.old ≡ Ok (tree_in self.new.trees i, self.new.seen, self.new.rest)) }
+        ensures same { OnOk result (pairs_at self.new.trees pairs.now ≡ pairs_at self.old.trees pairs.now) }
+        ensures stands { IfOk result (λ i. Stands i self.old.trees self.new.trees) }
+        ensures err { IfErr result (λ e. Fails e (reading (part_in nested room) self.old)) }
+    {
+        self.value(alloc, nested, room)
+    }
+
+    /// After `o` or `S`: a class symbol, a long, and so many fields.
+    #[cycle(read)]
+    fn fields_value(
+        &mut self,
+        alloc: Global,
+        nested: bool,
+        room: usize,
+        at: usize,
+        is_struct: bool,
+    ) -> Result<usize, ReadError>
+        requires { room < 128 }
+        ensures ok { IfOk result (λ i. reading (fields_value (fields_form is_struct) (part_in nested room) at) self.old ≡ Ok (tree_in self.new.trees i, self.new.seen, self.new.rest)) }
+        ensures stands { IfOk result (λ i. Stands i self.old.trees self.new.trees) }
+        ensures err { IfErr result (λ e. Fails e (reading (fields_value (fields_form is_struct) (part_in nested room) at) self.old)) }
+    {
+        let class = self.name(alloc)?;
+        let n = self.pair_count()?;
+        self.count_nodes(at, 1)?;
+        let number = self.begin_object()?;
+        let parts = self.fields(alloc, nested, room, n)?;
+        if is_struct {
+            return Ok(self.end(number, Entry::Struct(class, parts))?);
+        }
+        Ok(self.end(number, Entry::Object(class, parts))?)
+    }
+
+    /// After `U`: a class symbol and a value.
+    #[cycle(read)]
+    fn wrapped_value(
+        &mut self,
+        alloc: Global,
+        nested: bool,
+        room: usize,
+        at: usize,
+    ) -> Result<usize, ReadError>
+        requires { room < 128 }
+        ensures ok { IfOk result (λ i. reading (wrapped_value (part_in nested room) at) self.old ≡ Ok (tree_in self.new.trees i, self.new.seen, self.new.rest)) }
+        ensures stands { IfOk result (λ i. Stands i self.old.trees self.new.trees) }
+        ensures err { IfErr result (λ e. Fails e (reading (wrapped_value (part_in nested room) at) self.old)) }
+    {
+        let class = self.name(alloc)?;
+        self.count_nodes(at, 1)?;
+        let number = self.begin_object()?;
+        let part = self.value(alloc, nested, room)?;
+        Ok(self.end(number, Entry::Wrapped(class, part))?)
+    }
+
+    /// After `I`: a text, a symbol or a `u`.
+    #[cycle(read)]
+    fn marked_value(
+        &mut self,
+        alloc: Global,
+        nested: bool,
+        room: usize,
+        at: usize,
+    ) -> Result<usize, ReadError>
+        requires { room < 128 }
+        ensures ok { IfOk result (λ i. reading (marked_value (reference_in nested) (part_in nested room) at) self.old ≡ Ok (tree_in self.new.trees i, self.new.seen, self.new.rest)) }
+        ensures stands { IfOk result (λ i. Stands i self.old.trees self.new.trees) }
+        ensures err { IfErr result (λ e. Fails e (reading (marked_value (reference_in nested) (part_in nested room) at) self.old)) }
+    {
+        let place = self.at();
+        let mark = self.byte()?;
+        match kind_of(mark) {
+            Some(Kind::Text) => self.marked_text(alloc, at),
+            Some(Kind::Symbol) => self.marked_symbol_value(alloc, at),
+            Some(Kind::Dumped) => self.marked_dumped(alloc, nested, room, at),
+            _ => Err(refuse(Why::BadType(mark), place)),
+        }
+    }
+
+    /// After `Iu`: a class symbol, a length and bytes, a long and so many variables.
+    #[cycle(read)]
+    fn marked_dumped(
+        &mut self,
+        alloc: Global,
+        nested: bool,
+        room: usize,
+        at: usize,
+    ) -> Result<usize, ReadError>
+        requires { room < 128 }
+        ensures ok { IfOk result (λ i. reading (marked_dumped (reference_in nested) (part_in nested room) at) self.old ≡ Ok (tree_in self.new.trees i, self.new.seen, self.new.rest)) }
+        ensures stands { IfOk result (λ i. Stands i self.old.trees self.new.trees) }
+        ensures err { IfErr result (λ e. Fails e (reading (marked_dumped (reference_in nested) (part_in nested room) at) self.old)) }
+    {
+        let held = self.held(alloc, nested, at)?;
+        let n = self.pair_count()?;
+        self.count_nodes(at, held_nodes(&held))?;
+        let variables = self.fields(alloc, nested, room, n)?;
+        Ok(self.held_value(held, variables)?)
+    }
+
+    /// After `u`: a class symbol, a length and bytes.
+    #[cycle(read)]
+    fn dumped_value(&mut self, alloc: Global, nested: bool, at: usize) -> Result<usize, ReadError>
+        ensures ok { IfOk result (λ i. reading (dumped_value (reference_in nested) at) self.old ≡ Ok (tree_in self.new.trees i, self.new.seen, self.new.rest)) }
+        ensures stands { IfOk result (λ i. Stands i self.old.trees self.new.trees) }
+        ensures err { IfErr result (λ e. Fails e (reading (dumped_value (reference_in nested) at) self.old)) }
+    {
+        let held = self.held(alloc, nested, at)?;
+        self.count_nodes(at, held_nodes(&held))?;
+        Ok(self.held_value(held, Items::new(alloc))?)
+    }
+
+    /// A class symbol, a length and bytes.
+    #[cycle(read)]
+    fn held(&mut self, alloc: Global, nested: bool, at: usize) -> Result<Held, ReadError>
+        ensures ok { IfOk result (λ h. reading (held (reference_in nested) at) self.old ≡ Ok (held_is h, self.new.seen, self.new.rest)) }
+        ensures kept { OnOk result (self.new.trees ≡ self.old.trees) }
+        ensures err { IfErr result (λ e. Fails e (reading (held (reference_in nested) at) self.old)) }
+    {
+        let class = self.name(alloc)?;
+        let bytes = self.string()?;
+        if class.as_slice() != b"DRb::DRbObject".as_slice() {
+            return Ok(Held::Other(class, Items::from_slice(alloc, bytes)?));
+        }
+        match Reader::remote_in(alloc, nested, bytes)? {
+            None => Err(refuse(Why::BadReference, at)),
+            Some(remote) => Ok(Held::Remote(remote)),
+        }
+    }
+
+    /// The version bytes and one value.
+    #[cycle(read)]
+    #[tactic(auto, unfolding(marshal_grammar::specs::Dumps::dump_with))]
+    pub fn dump_with(&mut self, alloc: Global, nested: bool) -> Result<usize, ReadError>
+        ensures ok { IfOk result (λ i. reading (dump_with (reference_in nested)) self.old ≡ Ok (tree_in self.new.trees i, self.new.seen, self.new.rest)) }
+        ensures stands { IfOk result (λ i. Stands i self.old.trees self.new.trees) }
+        ensures err { IfErr result (λ e. Fails e (reading (dump_with (reference_in nested)) self.old)) }
+    {
+        self.version()?;
+        self.value(alloc, nested, 128)
+    }
+
+    /// The remote object whose inner dump these bytes begin with; `None` where they do not.
+    #[cycle(read)]
+    fn remote_in(alloc: Global, nested: bool, bytes: &[u8]) -> Result<Option<Remote>, AllocError>
+        ensures { IfOk result (λ r. r ≡ given (read (reference_in nested) opening bytes.now)) }
+    {
+        if nested {
+            return Ok(None);
+        }
+        let mut inner = Reader::new(alloc, bytes);
+        match inner.dump_with(alloc, true) {
+            Ok(index) => inner.remote(alloc, index),
+            Err(ReadError::Memory) => Err(AllocError),
+            Err(ReadError::Refused(_refusal)) => Ok(None),
+        }
+    }
+}

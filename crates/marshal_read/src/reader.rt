@@ -1,0 +1,127 @@
+//! The reader: the bytes that are left, and what was seen.
+
+ghost use Rattle.std.specs.Prelude.{◌≡◌, ℕ, ◌+◌, ◌<◌, ◌^◌, [], ◌∷◌, ◌++◌, length, IfOk, IfErr, OnOk, Ok, Err, slice_set, Some, None};
+ghost use Rattle.marshal_grammar.specs.Grammar.{byte, bytes, long};
+ghost use Rattle.marshal_grammar.specs.Contexts.{opening, add_symbol, begin_object, add_object, finish_object};
+ghost use Rattle.marshal_grammar.specs.declared.refusal.Why.TheVariants as why;
+ghost use Rattle.marshal_read.specs.Fails.{Fails, reading};
+ghost use Rattle.marshal_read.specs.Arena.{tree_in, planted};
+
+use crate::arena::Entry;
+use crate::error::{ReadError, refuse};
+use marshal_grammar::long::long_at;
+use marshal_grammar::refusal::Why;
+use sqlite_items::Items;
+use std::alloc::{AllocError, Global};
+use std::marker::Model;
+
+/// Bytes that are being read, and what those before left.
+#[derive(Drop)]
+pub struct Reader<'a> {
+    pub(crate) rest: &'a [u8],
+    pub(crate) at: usize,
+    pub(crate) symbols: Items<Items<u8>>,
+    pub(crate) objects: Items<Option<usize>>,
+    pub(crate) nodes: u64,
+    pub(crate) entries: Items<Entry>,
+}
+
+impl<'a> Model for Reader<'a> {
+    ghost use Rattle.marshal_read.specs.State.{State};
+    ghost use Rattle.drb_tree.specs.contracts.Tree as e;
+    ghost use Rattle.std.specs.Coded.{codes};
+
+    ghost Value = { State };
+
+    ghost coded = { Prim.hlevel (codes, e.the_row.coded) };
+
+    ghost use Rattle.marshal_read.specs.View.{state_of, Sound};
+
+    ghost view = { state_of };
+
+    ghost invariant = { Sound };
+}
+
+impl<'a> Reader<'a> {
+    /// A reader at the front of the bytes.
+    pub fn new(alloc: Global, bytes: &'a [u8]) -> Reader<'a>
+        requires { length bytes.now < 2 ^ 63 }
+        ensures { result ≡ record { rest = bytes.now; seen = opening; trees = [] } }
+    {
+        Reader {
+            rest: bytes,
+            at: 0,
+            symbols: Items::new(alloc),
+            objects: Items::new(alloc),
+            nodes: 0,
+            entries: Items::new(alloc),
+        }
+    }
+
+    /// The place reached.
+    pub fn at(&self) -> usize
+        ensures { result ≡ self.now.seen.at }
+    {
+        self.at
+    }
+
+    /// How many bytes are left.
+    pub fn left(&self) -> usize
+        ensures left { result ≡ length self.now.rest }
+        ensures fits { result < 2 ^ 63 }
+    {
+        self.rest.len()
+    }
+
+    /// A byte is missing.
+    pub fn short(&self) -> ReadError
+        ensures { result ≡ ReadError.Refused (record { why = why.Short; at = self.now.seen.at + length self.now.rest }) }
+    {
+        refuse(Why::Short, self.at + self.rest.len())
+    }
+
+    /// The next byte.
+    pub fn byte(&mut self) -> Result<u8, ReadError>
+        ensures ok { IfOk result (λ b. reading byte self.old ≡ Ok (b, self.new.seen, self.new.rest)) }
+        ensures kept { OnOk result (self.new.trees ≡ self.old.trees) }
+        ensures err { IfErr result (λ e. Fails e (reading byte self.old)) }
+    {
+        let Some((first, more)) = self.rest.split_first() else {
+            return Err(refuse(Why::Short, self.at));
+        };
+        self.rest = more;
+        self.at += 1;
+        Ok(*first)
+    }
+
+    /// The next `n` bytes.
+    pub fn bytes(&mut self, n: u64) -> Result<&'a [u8], ReadError>
+        ensures ok { IfOk result (λ b. reading (bytes n) self.old ≡ Ok (b.now, self.new.seen, self.new.rest)) }
+        ensures kept { OnOk result (self.new.trees ≡ self.old.trees) }
+        ensures err { IfErr result (λ e. Fails e (reading (bytes n) self.old)) }
+    {
+        if (self.rest.len() as u64) < n {
+            return Err(refuse(Why::Short, self.at + self.rest.len()));
+        }
+        let (these, more) = self.rest.split_at(n as usize);
+        self.rest = more;
+        self.at += n as usize;
+        Ok(these)
+    }
+
+    /// The next long.
+    pub fn long(&mut self) -> Result<i64, ReadError>
+        ensures ok { IfOk result (λ n. reading long self.old ≡ Ok (n, self.new.seen, self.new.rest)) }
+        ensures kept { OnOk result (self.new.trees ≡ self.old.trees) }
+        ensures err { IfErr result (λ e. Fails e (reading long self.old)) }
+    {
+        match long_at(self.rest, 0) {
+            Ok((n, size)) => {
+                self.rest = &self.rest[size..];
+                self.at += size;
+                Ok(n)
+            }
+            Err(why) => Err(refuse(why, self.at + self.rest.len())),
+        }
+    }
+}

@@ -1,0 +1,251 @@
+//! Symbols, names and encoding variables.
+
+ghost use Rattle.std.specs.Prelude.{◌≡◌, ℕ, ◌+◌, ◌<◌, List, [], ◌∷◌, ◌++◌, length, reverse, IfOk, IfErr, OnOk, Ok, Err, MatchOption, Option, Some, None};
+ghost use Rattle.std.proofs.Common.{inl, inr};
+ghost use Rattle.drb_tree.specs.Same.{all_ascii};
+ghost use Rattle.drb_tree.specs.declared.Code.TheVariants.{Binary, Ascii, Utf8};
+ghost use Rattle.marshal_grammar.specs.Symbols.{plain_symbol, linked_symbol, is_name, encoding_count, encoding_value, ended, marked_round, symbol_by, symbol_round, symbol, name, encoding, marked_symbol};
+ghost use Rattle.marshal_grammar.specs.Grammar.{byte};
+ghost use Rattle.marshal_grammar.specs.Kinds.{kind_of};
+ghost use Rattle.marshal_grammar.specs.Reading.{read, next};
+ghost use Rattle.marshal_read.specs.Fails.{Fails, reading};
+ghost use Rattle.marshal_read.specs.Rounds.{outcome, rounds_left, one_round};
+
+use crate::counts::heavy;
+use crate::error::{ReadError, refuse};
+use crate::reader::Reader;
+use drb_tree::Code;
+use marshal_grammar::kind::{Kind, kind_of};
+use marshal_grammar::refusal::Why;
+use sqlite_items::Items;
+use std::alloc::Global;
+
+/// Whether every byte is below 128.
+pub fn all_ascii(bytes: &[u8]) -> bool
+    ensures { result ≡ all_ascii bytes.now }
+{
+    for b in bytes {
+        if *b >= 128 {
+            return false;
+        }
+    }
+    true
+}
+
+/// Whether these bytes may be a symbol under `I` of this encoding.
+fn is_name(bytes: &[u8], code: Code) -> bool
+    ensures { result ≡ is_name bytes.now code }
+{
+    if all_ascii(bytes) {
+        return true;
+    }
+    match code {
+        Code::Utf8 => std::str::from_utf8(bytes).is_ok(),
+        _ => false,
+    }
+}
+
+impl<'a> Reader<'a> {
+    /// After `:`: a length and bytes, which are ASCII.
+    pub fn plain_symbol(&mut self, alloc: Global, at: usize) -> Result<Items<u8>, ReadError>
+        ensures ok { IfOk result (λ s. reading (plain_symbol at) self.old ≡ Ok (s, self.new.seen, self.new.rest)) }
+        ensures kept { OnOk result (self.new.trees ≡ self.old.trees) }
+        ensures err { IfErr result (λ e. Fails e (reading (plain_symbol at) self.old)) }
+    {
+        let s = self.string()?;
+        self.add_symbol(alloc, s)?;
+        if !all_ascii(s) {
+            return Err(refuse(Why::Name, at));
+        }
+        Ok(Items::from_slice(alloc, s)?)
+    }
+
+    /// After `;`: the number of a symbol.
+    pub fn linked_symbol(&mut self, alloc: Global, at: usize) -> Result<Items<u8>, ReadError>
+        ensures ok { IfOk result (λ s. reading (linked_symbol at) self.old ≡ Ok (s, self.new.seen, self.new.rest)) }
+        ensures kept { OnOk result (self.new.trees ≡ self.old.trees) }
+        ensures err { IfErr result (λ e. Fails e (reading (linked_symbol at) self.old)) }
+    {
+        let n = self.long()?;
+        match self.symbol_at(alloc, n)? {
+            None => Err(refuse(Why::SymbolLink, at)),
+            Some(s) => Ok(s),
+        }
+    }
+
+    /// How many encoding variables follow: none or one.
+    fn encoding_count(&mut self, at: usize) -> Result<u64, ReadError>
+        ensures ok { IfOk result (λ n. reading (encoding_count at) self.old ≡ Ok (n, self.new.seen, self.new.rest)) }
+        ensures kept { OnOk result (self.new.trees ≡ self.old.trees) }
+        ensures err { IfErr result (λ e. Fails e (reading (encoding_count at) self.old)) }
+    {
+        let n = self.count()?;
+        if n > 1 {
+            return Err(refuse(Why::Encoding, at));
+        }
+        Ok(n)
+    }
+
+    /// After the name of an encoding variable, which is `E`: its value.
+    fn encoding_value(&mut self, at: usize, name: &[u8]) -> Result<Code, ReadError>
+        ensures ok { IfOk result (λ c. reading (encoding_value at name.now) self.old ≡ Ok (c, self.new.seen, self.new.rest)) }
+        ensures kept { OnOk result (self.new.trees ≡ self.old.trees) }
+        ensures err { IfErr result (λ e. Fails e (reading (encoding_value at name.now) self.old)) }
+    {
+        if name != b"E".as_slice() {
+            return Err(refuse(Why::Encoding, at));
+        }
+        match self.byte()? {
+            b'T' => Ok(Code::Utf8),
+            b'F' => Ok(Code::Ascii),
+            _ => Err(refuse(Why::Encoding, at)),
+        }
+    }
+
+    /// A symbol is read: it is the `E` of the last that waits, which then is read too.
+    fn ended(
+        &mut self,
+        waiting: &mut Items<(usize, Items<u8>)>,
+        symbol: Items<u8>,
+    ) -> Result<Items<u8>, ReadError>
+        ensures ok { IfOk result (λ s. reading (ended (reverse waiting.old) symbol) self.old ≡ Ok (inr s, self.new.seen, self.new.rest)) }
+        ensures kept { OnOk result (self.new.trees ≡ self.old.trees) }
+        ensures err { IfErr result (λ e. Fails e (reading (ended (reverse waiting.old) symbol) self.old)) }
+    {
+        let mut symbol = symbol;
+        while let Some((at, waited)) = waiting.pop() {
+            let code = self.encoding_value(at, symbol.as_slice())?;
+            if !is_name(waited.as_slice(), code) {
+                return Err(refuse(Why::Name, at));
+            }
+            symbol = waited;
+        }
+        Ok(symbol)
+    }
+
+    /// After `I`, where a symbol must stand. `None`: it waits for its encoding.
+    fn marked_round(
+        &mut self,
+        alloc: Global,
+        at: usize,
+        waiting: &mut Items<(usize, Items<u8>)>,
+    ) -> Result<Option<Items<u8>>, ReadError>
+        ensures ok { IfOk result (λ s. reading (marked_round at (reverse waiting.old)) self.old ≡ Ok (outcome s (reverse waiting.new), self.new.seen, self.new.rest)) }
+        ensures kept { OnOk result (self.new.trees ≡ self.old.trees) }
+        ensures err { IfErr result (λ e. Fails e (reading (marked_round at (reverse waiting.old)) self.old)) }
+    {
+        let place = self.at();
+        let mark = self.byte()?;
+        if mark != b':' {
+            return Err(refuse(Why::BadType(mark), place));
+        }
+        let s = self.string()?;
+        self.add_symbol(alloc, s)?;
+        let n = self.encoding_count(at)?;
+        let symbol = Items::from_slice(alloc, s)?;
+        if n == 0 {
+            if !is_name(symbol.as_slice(), Code::Binary) {
+                return Err(refuse(Why::Name, at));
+            }
+            return Ok(Some(self.ended(waiting, symbol)?));
+        }
+        waiting.push((at, symbol))?;
+        Ok(None)
+    }
+
+    /// What the first byte of a symbol says.
+    fn symbol_by(
+        &mut self,
+        alloc: Global,
+        at: usize,
+        first: u8,
+        waiting: &mut Items<(usize, Items<u8>)>,
+    ) -> Result<Option<Items<u8>>, ReadError>
+        ensures ok { IfOk result (λ s. reading (symbol_by at (reverse waiting.old) first (kind_of first)) self.old ≡ Ok (outcome s (reverse waiting.new), self.new.seen, self.new.rest)) }
+        ensures kept { OnOk result (self.new.trees ≡ self.old.trees) }
+        ensures err { IfErr result (λ e. Fails e (reading (symbol_by at (reverse waiting.old) first (kind_of first)) self.old)) }
+    {
+        match kind_of(first) {
+            Some(Kind::Symbol) => {
+                let s = self.plain_symbol(alloc, at)?;
+                Ok(Some(self.ended(waiting, s)?))
+            }
+            Some(Kind::SymbolLink) => {
+                let s = self.linked_symbol(alloc, at)?;
+                Ok(Some(self.ended(waiting, s)?))
+            }
+            Some(Kind::Marked) => self.marked_round(alloc, at, waiting),
+            _ => Err(refuse(Why::BadType(first), at)),
+        }
+    }
+
+    /// One round of a symbol: its first byte and what that says.
+    fn symbol_round(
+        &mut self,
+        alloc: Global,
+        waiting: &mut Items<(usize, Items<u8>)>,
+    ) -> Result<Option<Items<u8>>, ReadError>
+        ensures ok { IfOk result (λ s. reading (one_round (reverse waiting.old)) self.old ≡ Ok (outcome s (reverse waiting.new), self.new.seen, self.new.rest)) }
+        ensures kept { OnOk result (self.new.trees ≡ self.old.trees) }
+        ensures err { IfErr result (λ e. Fails e (reading (one_round (reverse waiting.old)) self.old)) }
+    {
+        let at = self.at();
+        let first = self.byte()?;
+        self.symbol_by(alloc, at, first, waiting)
+    }
+
+    /// A symbol: `:`, `;` or `I:`.
+    pub fn symbol(&mut self, alloc: Global) -> Result<Items<u8>, ReadError>
+        ensures ok { IfOk result (λ s. reading symbol self.old ≡ Ok (s, self.new.seen, self.new.rest)) }
+        ensures kept { OnOk result (self.new.trees ≡ self.old.trees) }
+        ensures err { IfErr result (λ e. Fails e (reading symbol self.old)) }
+    {
+        let mut waiting = Items::new(alloc);
+        for _ in 0..self.left() + 1 {
+            if let Some(s) = self.symbol_round(alloc, &mut waiting)? {
+                return Ok(s);
+            }
+        }
+        Err(self.short())
+    }
+
+    /// A class symbol, or the name of a field or variable: it counts by its bytes at its place.
+    pub fn name(&mut self, alloc: Global) -> Result<Items<u8>, ReadError>
+        ensures ok { IfOk result (λ s. reading name self.old ≡ Ok (s, self.new.seen, self.new.rest)) }
+        ensures kept { OnOk result (self.new.trees ≡ self.old.trees) }
+        ensures err { IfErr result (λ e. Fails e (reading name self.old)) }
+    {
+        let at = self.at();
+        let s = self.symbol(alloc)?;
+        self.count_nodes(at, heavy(s.as_slice()))?;
+        Ok(s)
+    }
+
+    /// Encoding variables: none, binary; one, the symbol `E` and `T` or `F`.
+    pub fn encoding(&mut self, alloc: Global, at: usize) -> Result<Code, ReadError>
+        ensures ok { IfOk result (λ c. reading (encoding at) self.old ≡ Ok (c, self.new.seen, self.new.rest)) }
+        ensures kept { OnOk result (self.new.trees ≡ self.old.trees) }
+        ensures err { IfErr result (λ e. Fails e (reading (encoding at) self.old)) }
+    {
+        if self.encoding_count(at)? == 0 {
+            return Ok(Code::Binary);
+        }
+        let name = self.symbol(alloc)?;
+        self.encoding_value(at, name.as_slice())
+    }
+
+    /// After `I:` of a value: a length and bytes, and encoding variables.
+    pub fn marked_symbol(&mut self, alloc: Global, at: usize) -> Result<Items<u8>, ReadError>
+        ensures ok { IfOk result (λ s. reading (marked_symbol at) self.old ≡ Ok (s, self.new.seen, self.new.rest)) }
+        ensures kept { OnOk result (self.new.trees ≡ self.old.trees) }
+        ensures err { IfErr result (λ e. Fails e (reading (marked_symbol at) self.old)) }
+    {
+        let s = self.string()?;
+        self.add_symbol(alloc, s)?;
+        let code = self.encoding(alloc, at)?;
+        if !is_name(s, code) {
+            return Err(refuse(Why::Name, at));
+        }
+        Ok(Items::from_slice(alloc, s)?)
+    }
+}
