@@ -22,6 +22,8 @@ mod reader;
 mod references;
 mod symbols;
 mod tables;
+#[cfg(test)]
+mod tests;
 mod values;
 
 ghost use Rattle.std.specs.Prelude.{◌≡◌, ℕ, ◌+◌, ◌-◌, ◌<◌, ◌^◌, ◌⊎◌, length, IfOk, Ok, Err};
