@@ -10,3 +10,4 @@ pub mod Values
 pub mod Dumps
 pub mod Spelled
 pub mod Laws
+pub mod Refusals

@@ -1,5 +1,10 @@
 //! Why a dump is refused, and where.
 
+ghost use Rattle.std.specs.Prelude.{◌≡◌};
+ghost use Rattle.marshal_grammar.specs.Refusals.{number_of};
+
+use thiserror::Error;
+
 /// Why bytes are not read.
 ///
 /// Where each stands, and which of two comes first: docs/MARSHAL.md, Refusals.
@@ -37,8 +42,35 @@ pub enum Why {
     Name,
 }
 
-/// A refusal: its reason, and its place, the number of bytes before it.
-#[derive(Clone, Copy, Debug, PartialEq, Eq)]
+impl Why {
+    /// The number of the reason, from 1: its row in the table of docs/MARSHAL.md, Refusals, where SymbolLink and
+    /// ObjectLink are two.
+    pub fn number(&self) -> u8
+        ensures { result ≡ number_of self.now }
+    {
+        match self {
+            Why::Short => 1,
+            Why::Version => 2,
+            Why::BadType(_) => 3,
+            Why::Encoding => 4,
+            Why::BigInteger => 5,
+            Why::Length => 6,
+            Why::SymbolLink => 7,
+            Why::ObjectLink => 8,
+            Why::Cyclic => 9,
+            Why::DuplicateKey => 10,
+            Why::TooManyPairs => 11,
+            Why::TooDeep => 12,
+            Why::TooManyNodes => 13,
+            Why::BadReference => 14,
+            Why::Name => 15,
+        }
+    }
+}
+
+/// A refusal: its reason, and its place, the number of bytes before it. It prints as its number and its place.
+#[derive(Clone, Copy, Debug, PartialEq, Eq, Error)]
+#[error("marshal refusal {number} at {at}", number = .why.number())]
 pub struct Refusal {
     pub why: Why,
     pub at: usize,

@@ -4,13 +4,16 @@ ghost use Rattle.std.specs.Prelude.{◌≡◌};
 
 use marshal_grammar::refusal::{Refusal, Why};
 use std::alloc::AllocError;
+use thiserror::Error;
 
 /// Why no value is read.
-#[derive(Clone, Copy, Debug, PartialEq, Eq)]
+#[derive(Clone, Copy, Debug, PartialEq, Eq, Error)]
 pub enum ReadError {
     /// The bytes are refused.
+    #[error(transparent)]
     Refused(Refusal),
     /// There was no memory.
+    #[error("out of memory")]
     Memory,
 }
 
