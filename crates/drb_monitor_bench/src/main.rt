@@ -23,9 +23,9 @@ const TURNS: u64 = 200_000;
 const RUNS: u32 = 9;
 
 // How many turns are made in the run with long turns, and how often the processor pauses in each.
-const LONG_TURNS: u64 = 2_000;
+const LONG_TURNS: u64 = 1_000;
 
-const LONG_PAUSES: u64 = 18_000;
+const LONG_PAUSES: u64 = 225_000;
 
 // Pays in 1 so often under the mutex.
 fn pay_locked<R: Wait>(rt: &R, shared: &Mutex<Account>, caller: u64, count: u64) -> u64 {
