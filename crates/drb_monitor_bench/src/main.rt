@@ -1,7 +1,8 @@
 //! Measures what it costs to enter a monitor, beside std's mutex round the same machine.
 //!
 //! `bench/monitor.sh` runs it with the word `measure`: it then prints the nanoseconds of one enter and of one locked
-//! turn, and their ratio, for one, two and four threads. Without that word it measures nothing. It stands on
+//! turn, and their ratio, for one, two and four threads. With the word `hold` four threads enter for turns of about a
+//! millisecond, and the script prints the processor time beside. Without these words it measures nothing. It stands on
 //! `drb_monitor_tests`, whose account both take in; docs/PERFORMANCE.md has what it printed.
 #![tactic(auto)]
 
@@ -21,6 +22,11 @@ const TURNS: u64 = 200_000;
 // How many runs there are of each, of which the quickest counts.
 const RUNS: u32 = 9;
 
+// How many turns are made in the run with long turns, and how often the processor pauses in each.
+const LONG_TURNS: u64 = 1_000;
+
+const LONG_PAUSES: u64 = 225_000;
+
 // Pays in 1 so often under the mutex.
 fn pay_locked<R: Wait>(rt: &R, shared: &Mutex<Account>, caller: u64, count: u64) -> u64 {
     for at in 0..count {
@@ -37,7 +43,7 @@ fn race_locked<R: Threads + Wait + Sync>(
     threads: u64,
     count: u64,
 ) -> Option<Account> {
-    let mutex = Mutex::new(Account::new(alloc, 4_000_000));
+    let mutex = Mutex::new(Account::new(alloc, 4_000_000, 0));
     let shared = &mutex;
     thread::map_indices(
         rt,
@@ -62,7 +68,7 @@ fn measure<R: Threads + Wait + Clock + Sync>(
     let mut locked = u64::MAX;
     for _ in 0..RUNS {
         let start = Instant::now(rt)?;
-        let made = race(rt, alloc, threads, count);
+        let made = race(rt, alloc, threads, count, 0);
         let spent = u64::try_from(start.elapsed(rt)?.as_nanos()).unwrap_or(u64::MAX);
         if made.is_some() {
             entered = entered.min(spent / TURNS);
@@ -77,25 +83,42 @@ fn measure<R: Threads + Wait + Clock + Sync>(
     Ok((entered, locked))
 }
 
+// The nanoseconds of one turn where four threads enter for long turns.
+fn hold<R: Threads + Wait + Clock + Sync>(rt: &R, alloc: Global) -> io::Result<u64> {
+    let start = Instant::now(rt)?;
+    let _ = race(rt, alloc, 4, LONG_TURNS / 4, LONG_PAUSES);
+    let spent = u64::try_from(start.elapsed(rt)?.as_nanos()).unwrap_or(u64::MAX);
+    Ok(spent / LONG_TURNS)
+}
+
 fn main(rt: HostRuntime) -> io::Result<()> {
-    let mut wanted = false;
+    let mut measures = false;
+    let mut holds = false;
     for word in env::args(&rt)? {
-        if word.as_str() == "measure" {
-            wanted = true;
+        match word.as_str() {
+            "measure" => measures = true,
+            "hold" => holds = true,
+            _ => {}
         }
     }
-    if !wanted {
-        println!(rt; "The word `measure` measures the monitor.")?;
+    if !measures && !holds {
+        println!(rt; "The word `measure` measures the monitor, `hold` its long turns.")?;
         return Ok(());
     }
-    for threads in [1u64, 2, 4] {
-        let (entered, locked) = measure(&rt, rt.alloc(), threads)?;
-        let ratio = entered.saturating_mul(100) / locked.max(1);
-        println!(rt;
-            "threads {threads}: enter {entered} ns, mutex {locked} ns, ratio {}.{:02}",
-            ratio / 100,
-            ratio % 100
-        )?;
+    if holds {
+        let turn = hold(&rt, rt.alloc())?;
+        println!(rt; "threads 4: {LONG_TURNS} long turns, each {turn} ns")?;
+    }
+    if measures {
+        for threads in [1u64, 2, 4] {
+            let (entered, locked) = measure(&rt, rt.alloc(), threads)?;
+            let ratio = entered.saturating_mul(100) / locked.max(1);
+            println!(rt;
+                "threads {threads}: enter {entered} ns, mutex {locked} ns, ratio {}.{:02}",
+                ratio / 100,
+                ratio % 100
+            )?;
+        }
     }
     Ok(())
 }

@@ -3,6 +3,7 @@ ghost use Rattle.std.specs.Prelude.{◌≡◌, [], sum_by};
 
 use drb_monitor::Machine;
 use std::alloc::Global;
+use std::hint;
 
 /// Why an account took no payment.
 #[derive(Debug, Drop)]
@@ -33,6 +34,8 @@ pub struct Movement {
 pub struct Account {
     /// The most turns that it makes.
     pub cap: u64,
+    /// How often the processor pauses in each turn, which makes the turn longer.
+    pub pauses: u64,
     /// What was paid in, in all.
     pub balance: u64,
     /// Its turns, the oldest first.
@@ -41,13 +44,15 @@ pub struct Account {
 }
 
 impl Account {
-    /// An account with no turns.
-    pub fn new(alloc: Global, cap: u64) -> Account
+    /// An account with no turns. It makes at most `cap`, and the processor pauses so often in each.
+    pub fn new(alloc: Global, cap: u64, pauses: u64) -> Account
         ensures cap { result.cap ≡ cap }
+        ensures pauses { result.pauses ≡ pauses }
         ensures empty { result.movements.items ≡ [] }
     {
         Account {
             cap,
+            pauses,
             balance: 0,
             movements: Vec::new(alloc),
         }
@@ -82,6 +87,7 @@ impl Machine for Account {
     ghost allows = { Allows };
 
     fn turn(&mut self, caller: u64, at: u64, event: u64) -> Result<Option<u64>, Fault> {
+        pause(self.pauses);
         if event == 0 {
             return Ok(None);
         }
@@ -111,4 +117,11 @@ impl Machine for Account {
     }
 
     ghost begins = { λ cap. Prim.search rules };
+}
+
+// Lets the processor pause so often.
+fn pause(times: u64) {
+    for _ in 0..times {
+        hint::spin_loop();
+    }
 }

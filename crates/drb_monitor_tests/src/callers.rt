@@ -85,18 +85,20 @@ fn join_all(monitor: &Monitor<Account>, first: &mut Pass<Account>, mut passes: V
 
 /// Lets as many threads pay in beside one another, each so often, and gives the account back once all have ended.
 ///
-/// Each thread is a caller of its own, from number 1 on. It pays in 1 each time, at the readings 0, 1, 2 and so on.
+/// Each thread is a caller of its own, from number 1 on. It pays in 1 each time, at the readings 0, 1, 2 and so on, and
+/// the processor pauses so often in each turn.
 /// None for want of memory or of threads alone.
 pub fn race<R: Threads + Wait + Sync>(
     rt: &R,
     alloc: Global,
     threads: u64,
     count: u64,
+    pauses: u64,
 ) -> Option<Account>
     requires { threads < 2 ^ 32 }
     ensures { IfSome result (λ account. account.cap ≡ 4000000) }
 {
-    let account = Account::new(alloc, 4_000_000);
+    let account = Account::new(alloc, 4_000_000, pauses);
     let Ok((monitor, mut first)) = Monitor::new(alloc, account, threads + 1) else {
         return None;
     };

@@ -9,7 +9,7 @@ use std::thread;
 #[test]
 fn each_callers_turns_stand_in_its_own_order(rt: HostRuntime) {
     for (threads, count) in [(2u64, 10_000u64), (4, 10_000), (16, 500)] {
-        let account = race(&rt, rt.alloc(), threads, count).expect(&rt, "no memory");
+        let account = race(&rt, rt.alloc(), threads, count, 0).expect(&rt, "no memory");
         let mut balance = 0u64;
         let mut next = Vec::from_elem(rt.alloc(), 0u64, 17).expect(&rt, "no memory");
         for movement in &account.movements {
@@ -31,7 +31,7 @@ fn each_callers_turns_stand_in_its_own_order(rt: HostRuntime) {
 
 #[test]
 fn a_monitor_closes_once_its_passes_are_joined(rt: HostRuntime) {
-    let account = Account::new(rt.alloc(), 100);
+    let account = Account::new(rt.alloc(), 100, 0);
     let Ok((monitor, mut first)) = Monitor::new(rt.alloc(), account, 3) else {
         panic!(rt; "no memory");
     };
@@ -75,7 +75,7 @@ fn a_monitor_closes_once_its_passes_are_joined(rt: HostRuntime) {
 
 #[test]
 fn a_wait_ends_with_another_threads_turn(rt: HostRuntime) {
-    let account = Account::new(rt.alloc(), 4_000_000);
+    let account = Account::new(rt.alloc(), 4_000_000, 0);
     let Ok((monitor, mut first)) = Monitor::new(rt.alloc(), account, 2) else {
         panic!(rt; "no memory");
     };
