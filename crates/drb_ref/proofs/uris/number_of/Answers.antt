@@ -1,0 +1,14 @@
+use Rattle.std.proofs.Common.{rules, ◌≡◌, true, arith}
+use Rattle.drb_ref.proofs.Digits.{digits_from_pass, pass_from_digits, port_is}
+use Rattle.drb_ref.proofs.uris.number_of.Goals as goal
+
+pub returns-then-not-are_digits-clause-every : goal.returns-then-not-are_digits-clause-every
+returns-then-not-are_digits-clause-every c port p =
+    let t : c.are_digits.result ≡ true = c.are_digits.ensures.1 (pass_from_digits c.args.digits.now p.0.1) in
+    cc
+
+pub value_of-requires : goal.value_of-requires
+value_of-requires c = digits_from_pass c.args.digits.now (c.are_digits.ensures.0 (search rules))
+
+pub returns-clause-number : goal.returns-clause-number
+returns-clause-number c = port_is c.args.digits.now c.value_of.result c.above_zero.result (omega arith) (digits_from_pass c.args.digits.now (c.are_digits.ensures.0 (search rules))) c.value_of.ensures.value c.above_zero.ensures.above

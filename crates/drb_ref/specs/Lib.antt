@@ -1,0 +1,3 @@
+pub mod Uris
+pub mod Exceptions
+pub mod Blocks
