@@ -300,7 +300,7 @@ fn next_reply(alloc: Global, source: &mut MemSource, limits: &Limits) -> Answer 
 // How many bytes the source still gives.
 fn left_in(source: &mut MemSource) -> usize {
     let mut rest = [0; 64];
-    let mut left = 0;
+    let mut left: usize = 0;
     for _ in 0..64 {
         let Ok(count) = source.read(&mut rest) else {
             return 1000;
