@@ -6,7 +6,6 @@ use marshal_grammar::refusal::{Refusal, Why};
 use marshal_read::{ReadError, read_dump};
 use marshal_write::write_dump;
 use std::alloc::Global;
-use std::test::Fail;
 
 /// A uri, its host and its port.
 type Uri = (&'static [u8], &'static [u8], u16);
@@ -84,22 +83,55 @@ fn uris_are_refused_for_their_first_fault(rt: HostRuntime) {
     }
 }
 
-fn is_written(alloc: Global, value: &Value, dump: &[u8]) -> Result<bool, Fail> {
+fn is_written(alloc: Global, value: &Value, dump: &[u8]) -> bool {
     let mut out = Vec::new(alloc);
-    write_dump(value, &mut out)?;
-    Ok(out.as_slice() == dump)
+    match write_dump(value, &mut out) {
+        Ok(()) => out.as_slice() == dump,
+        Err(_) => false,
+    }
+}
+
+/// The value's dump is this; the value is let go of.
+fn is_dumped(alloc: Global, value: Value, dump: &[u8]) -> bool {
+    let fits = is_written(alloc, &value, dump);
+    drop(value);
+    fits
+}
+
+/// A message, and the dump of the exception that has it.
+type Raised = (&'static [u8], &'static [u8]);
+
+const RAISED: [Raised; 2] = [
+    (
+        b"premature header",
+        b"\x04\x08o:\x16DRb::DRbConnError\x07:\x09mesgI\"\x15premature header\x06:\x06ET:\x07bt[\x00",
+    ),
+    (
+        b"would wait",
+        b"\x04\x08o:\x10ThreadError\x07:\x09mesgI\"\x0fwould wait\x06:\x06ET:\x07bt[\x00",
+    ),
+];
+
+fn conn_error_is_written(alloc: Global) -> bool {
+    let row = RAISED[0];
+    match exception(alloc, b"DRb::DRbConnError", row.0) {
+        Ok(raised) => is_dumped(alloc, raised, row.1),
+        Err(_) => false,
+    }
+}
+
+fn thread_error_is_written(alloc: Global) -> bool {
+    let row = RAISED[1];
+    match exception(alloc, b"ThreadError", row.0) {
+        Ok(raised) => is_dumped(alloc, raised, row.1),
+        Err(_) => false,
+    }
 }
 
 #[test]
-fn exceptions_are_written_with_two_fields(rt: HostRuntime) -> Result<(), Fail> {
-    let cut = exception(rt.alloc(), b"DRb::DRbConnError", b"premature header")?;
-    let dump =
-        b"\x04\x08o:\x16DRb::DRbConnError\x07:\x09mesgI\"\x15premature header\x06:\x06ET:\x07bt[\x00";
-    assert!(&rt; is_written(rt.alloc(), &cut, dump)?);
-    let waits = exception(rt.alloc(), b"ThreadError", b"would wait")?;
-    let dump = b"\x04\x08o:\x10ThreadError\x07:\x09mesgI\"\x0fwould wait\x06:\x06ET:\x07bt[\x00";
-    assert!(&rt; is_written(rt.alloc(), &waits, dump)?);
-    Ok(())
+fn exceptions_are_written_with_two_fields(rt: HostRuntime) {
+    assert!(&rt; conn_error_is_written(rt.alloc()));
+    assert!(&rt; thread_error_is_written(rt.alloc()));
 }
 
 /// The dump of a value, and the dump of what a block is sent for it.
@@ -126,37 +158,41 @@ const SENT: [Sent; 5] = [
     ),
 ];
 
-fn is_sent(alloc: Global, row: Sent) -> Result<bool, Fail> {
+fn is_sent(alloc: Global, row: Sent) -> bool {
     let Ok((value, _)) = read_dump(alloc, row.0) else {
-        return Ok(false);
+        return false;
     };
-    let sent = array_for_block(alloc, &value)?;
-    is_written(alloc, &sent, row.1)
+    let sent = array_for_block(alloc, &value);
+    drop(value);
+    match sent {
+        Ok(sent) => is_dumped(alloc, sent, row.1),
+        Err(_) => false,
+    }
 }
 
-fn comes_back(alloc: Global, row: Sent) -> Result<bool, Fail> {
+fn comes_back(alloc: Global, row: Sent) -> bool {
     let Ok((value, _)) = read_dump(alloc, row.1) else {
-        return Ok(false);
+        return false;
     };
     match array_from_block(alloc, value) {
-        Ok(back) => is_written(alloc, &back, row.0),
-        Err(_) => Ok(false),
+        Ok(back) => is_dumped(alloc, back, row.0),
+        Err(_) => false,
     }
 }
 
+/// A `DRb::DRbArray` with a variable, which is dropped.
+const VARIED: Sent = (
+    b"\x04\x08[\x00",
+    b"\x04\x08Iu:\x12DRb::DRbArray\x09\x04\x08[\x00\x06:\x06ki\x06",
+);
+
 #[test]
-fn arrays_go_to_a_block_and_come_back(rt: HostRuntime) -> Result<(), Fail> {
+fn arrays_go_to_a_block_and_come_back(rt: HostRuntime) {
     for row in SENT {
-        assert!(&rt; is_sent(rt.alloc(), row)?);
-        assert!(&rt; comes_back(rt.alloc(), row)?);
+        assert!(&rt; is_sent(rt.alloc(), row));
+        assert!(&rt; comes_back(rt.alloc(), row));
     }
-    // with a variable, which is dropped
-    let row: Sent = (
-        b"\x04\x08[\x00",
-        b"\x04\x08Iu:\x12DRb::DRbArray\x09\x04\x08[\x00\x06:\x06ki\x06",
-    );
-    assert!(&rt; comes_back(rt.alloc(), row)?);
-    Ok(())
+    assert!(&rt; comes_back(rt.alloc(), VARIED));
 }
 
 /// The dump of a `DRb::DRbArray`, and why it is refused and where.
@@ -183,17 +219,23 @@ const REFUSED: [Refused; 5] = [
     ),
 ];
 
+fn is_refusal(error: ReadError, why: Why, at: usize) -> bool {
+    match error {
+        ReadError::Refused(refusal) => refusal == Refusal { why, at },
+        ReadError::Memory => false,
+    }
+}
+
 fn is_refused(alloc: Global, row: Refused) -> bool {
     let Ok((value, _)) = read_dump(alloc, row.0) else {
         return false;
     };
     match array_from_block(alloc, value) {
-        Err(ReadError::Refused(refusal)) => refusal
-            == Refusal {
-                why: row.1,
-                at: row.2,
-            },
-        _ => false,
+        Ok(back) => {
+            drop(back);
+            false
+        }
+        Err(error) => is_refusal(error, row.1, row.2),
     }
 }
 
