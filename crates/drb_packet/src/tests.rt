@@ -281,7 +281,9 @@ fn next_request(alloc: Global, source: &mut MemSource, limits: &Limits) -> Answe
     match read_request(alloc, source, limits) {
         Ok(Inbound::End) => Answer::End,
         Ok(Inbound::Request(request)) => {
-            Answer::Request(request.args.len(), request.block.is_some())
+            let answer = Answer::Request(request.args.len(), request.block.is_some());
+            drop(request);
+            answer
         }
         Ok(Inbound::Refused(why)) => Answer::Refused(why),
         Err(error) => Answer::Failed(error),
@@ -291,7 +293,11 @@ fn next_request(alloc: Global, source: &mut MemSource, limits: &Limits) -> Answe
 fn next_reply(alloc: Global, source: &mut MemSource, limits: &Limits) -> Answer {
     match read_reply(alloc, source, limits) {
         Ok(Reply::End) => Answer::End,
-        Ok(Reply::Reply(ok, value)) => Answer::Reply(ok, matches!(&value.node, Node::Nil)),
+        Ok(Reply::Reply(ok, value)) => {
+            let answer = Answer::Reply(ok, matches!(&value.node, Node::Nil));
+            drop(value);
+            answer
+        }
         Ok(Reply::Refused(why)) => Answer::Refused(why),
         Err(error) => Answer::Failed(error),
     }
@@ -406,35 +412,43 @@ const TUPLE: &[u8] = b"\0\0\0\x03\x04\x08T\0\0\0\x09\x04\x08[\x07:\x06ai\x06";
 
 const FAILURE: &[u8] = b"\0\0\0\x03\x04\x08F\0\0\0\x03\x04\x080";
 
-fn writes_request(
-    alloc: Global,
-    to: &RefId,
-    name: &[u8],
-    arg: Value,
-    text: &[u8],
-) -> Result<bool, Fail>
+fn writes_request(alloc: Global, to: RefId, name: &[u8], arg: Value, text: &[u8]) -> bool
     requires { IsTrue (all_ascii name.now) }
 {
     let mut args = Vec::new(alloc);
-    args.push(arg)?;
+    if args.push(arg).is_err() {
+        return false;
+    }
     let mut out = Vec::new(alloc);
-    Ok(write_request(to, name, &args, &mut out).is_ok() && out.as_slice() == text)
+    let fits = write_request(&to, name, &args, &mut out).is_ok() && out.as_slice() == text;
+    drop(args);
+    drop(to);
+    fits
 }
 
-fn writes_reply(alloc: Global, ok: bool, value: &Value, text: &[u8]) -> Result<bool, Fail> {
+fn writes_reply(alloc: Global, ok: bool, value: Value, text: &[u8]) -> bool {
     let mut out = Vec::new(alloc);
-    Ok(write_reply(ok, value, &mut out).is_ok() && out.as_slice() == text)
+    let fits = write_reply(ok, &value, &mut out).is_ok() && out.as_slice() == text;
+    drop(value);
+    fits
 }
 
 #[test]
-fn requests_and_replies_are_written_as_ruby_reads_them(rt: HostRuntime) -> Result<(), Fail> {
-    let alloc = rt.alloc();
-    let seven = RefId::Number(7);
-    assert!(&rt; writes_request(alloc, &seven, b"call", first_object(alloc)?, CALL)?);
-    assert!(&rt; writes_request(alloc, &RefId::Front, b"write", tuple(alloc)?, WRITE)?);
-    assert!(&rt; writes_reply(alloc, true, &first_object(alloc)?, REFERENCE)?);
-    assert!(&rt; writes_reply(alloc, true, &tuple(alloc)?, TUPLE)?);
-    assert!(&rt; writes_reply(alloc, false, &Value::nil(), FAILURE)?);
+fn requests_are_written_as_ruby_reads_them(rt: HostRuntime) -> Result<(), Fail> {
+    let arg = first_object(rt.alloc())?;
+    assert!(&rt; writes_request(rt.alloc(), RefId::Number(7), b"call", arg, CALL));
+    let arg = tuple(rt.alloc())?;
+    assert!(&rt; writes_request(rt.alloc(), RefId::Front, b"write", arg, WRITE));
+    Ok(())
+}
+
+#[test]
+fn replies_are_written_as_ruby_reads_them(rt: HostRuntime) -> Result<(), Fail> {
+    let result = first_object(rt.alloc())?;
+    assert!(&rt; writes_reply(rt.alloc(), true, result, REFERENCE));
+    let result = tuple(rt.alloc())?;
+    assert!(&rt; writes_reply(rt.alloc(), true, result, TUPLE));
+    assert!(&rt; writes_reply(rt.alloc(), false, Value::nil(), FAILURE));
     Ok(())
 }
 
