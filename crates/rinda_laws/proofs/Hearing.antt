@@ -35,7 +35,7 @@ use Rattle.rinda_laws.specs.Hears.{HearsSince}
 use Rattle.rinda_laws.proofs.Staying.{plain_from-append, LegalFrom-front, LegalFrom-back}
 
 -- the row that a changed one was
-unmap : (id : ℕ) (f : Notifier → Notifier) (ns : List Notifier) (n : Notifier) → ((n : Notifier) → (f n).id ≡ n.id) → row_of (λ n. n.id) id (map f ns) ≡ Some n → (m : Notifier) × (row_of (λ n. n.id) id ns ≡ Some m) × (n ≡ f m)
+pub unmap : (id : ℕ) (f : Notifier → Notifier) (ns : List Notifier) (n : Notifier) → ((n : Notifier) → (f n).id ≡ n.id) → row_of (λ n. n.id) id (map f ns) ≡ Some n → (m : Notifier) × (row_of (λ n. n.id) id ns ≡ Some m) × (n ≡ f m)
 unmap id f [] n ids e = cc
 unmap id f (x ∷ xs) n ids e = by_test (x.id == id) refl (unmap id f xs n ids)
   where
@@ -46,7 +46,7 @@ unmap id f (x ∷ xs) n ids e = by_test (x.id == id) refl (unmap id f xs n ids)
         let rest = further later in
         (rest.0, grind (arith, nat_tests, rest.1), rest.2)
 
-unpush : (id : ℕ) (x : Notifier) (ns : List Notifier) (n : Notifier) → x.id ≢ id → row_of (λ n. n.id) id (ns ++ x ∷ []) ≡ Some n → row_of (λ n. n.id) id ns ≡ Some n
+pub unpush : (id : ℕ) (x : Notifier) (ns : List Notifier) (n : Notifier) → x.id ≢ id → row_of (λ n. n.id) id (ns ++ x ∷ []) ≡ Some n → row_of (λ n. n.id) id ns ≡ Some n
 unpush id x [] n ne e = absurd (none (x.id == id) refl e)
   where
     none : (b : Bool) → x.id == id ≡ b → cond {A = Option Notifier} b (Some x) None ≡ Some n → ⊥
@@ -54,11 +54,11 @@ unpush id x [] n ne e = absurd (none (x.id == id) refl e)
     none false is e = cc
 unpush id x (y ∷ ys) n ne e = grind (arith, nat_tests, unpush id x ys n ne)
 
-gone : (id : ℕ) (ns : List Notifier) → row_of (λ n. n.id) id (without (λ n. n.id) id ns) ≡ None
+pub gone : (id : ℕ) (ns : List Notifier) → row_of (λ n. n.id) id (without (λ n. n.id) id ns) ≡ None
 gone id [] = refl
 gone id (x ∷ xs) = grind (arith, nat_tests, gone id xs)
 
-unwithout : (id of : ℕ) (ns : List Notifier) (n : Notifier) → row_of (λ n. n.id) id (without (λ n. n.id) of ns) ≡ Some n → row_of (λ n. n.id) id ns ≡ Some n
+pub unwithout : (id of : ℕ) (ns : List Notifier) (n : Notifier) → row_of (λ n. n.id) id (without (λ n. n.id) of ns) ≡ Some n → row_of (λ n. n.id) id ns ≡ Some n
 unwithout id of [] n e = cc
 unwithout id of (x ∷ xs) n e = by_test (x.id == of) refl (unwithout id of xs n)
   where
@@ -73,7 +73,7 @@ assoc (x ∷ xs) ys zs = ap (λ (l : List Raised). x ∷ l) (assoc xs ys zs)
 more : (es base grown new : List Raised) → es ≡ base ++ grown → es ++ new ≡ base ++ (grown ++ new)
 more es base grown new e = ap (λ (l : List Raised). l ++ new) e ∙ assoc base grown new
 
-aged_id : (s : Plain) (n : Notifier) → (aged_notifier s n).id ≡ n.id
+pub aged_id : (s : Plain) (n : Notifier) → (aged_notifier s n).id ≡ n.id
 aged_id s n = grind (arith, nat_tests)
 
 aged_event : (s : Plain) (n : Notifier) → (aged_notifier s n).event ≡ n.event
@@ -102,7 +102,7 @@ settle_grows false (Some t) s = by_mark t.marked
     by_mark true = (record { what = happening.Delete; id = t.id; tuple = t.value } ∷ [], refl)
     by_mark false = ([], nothing s.events)
 
-settle_notifiers : (ok : Bool) (o : Option Entry) (s : Plain) → ((settle_tuple ok o s).notifiers ≡ s.notifiers) × ((settle_tuple ok o s).next ≡ s.next)
+pub settle_notifiers : (ok : Bool) (o : Option Entry) (s : Plain) → ((settle_tuple ok o s).notifiers ≡ s.notifiers) × ((settle_tuple ok o s).next ≡ s.next)
 settle_notifiers ok None s = (refl, refl)
 settle_notifiers true (Some t) s = (refl, refl)
 settle_notifiers false (Some t) s = by_mark t.marked
@@ -190,14 +190,14 @@ module _ (id : ℕ) (event : Tree) (pattern : Template) (base : List Raised) whe
 
 -- The registration.
 
-row_push : (n : ℕ) (x : Notifier) (ns : List Notifier) → list_all (λ y. ltb y.id n) ns ≡ true → x.id ≡ n → row_of (λ y. y.id) n (ns ++ x ∷ []) ≡ Some x
+pub row_push : (n : ℕ) (x : Notifier) (ns : List Notifier) → list_all (λ y. ltb y.id n) ns ≡ true → x.id ≡ n → row_of (λ y. y.id) n (ns ++ x ∷ []) ≡ Some x
 row_push n x [] below e = grind (arith, nat_tests)
 row_push n x (y ∷ ys) below e = grind (arith, nat_tests, row_push n x ys)
 
-two : (a b : Bool) → (a && b) ≡ true → b ≡ true
+pub two : (a b : Bool) → (a && b) ≡ true → b ≡ true
 two a b e = grind arith
 
-abbrev notifier_id : Out → ℕ
+abbrev pub notifier_id : Out → ℕ
 notifier_id (out.Notifier i) = i
 notifier_id _ = 0
 
@@ -205,7 +205,7 @@ no_more : (es : List Raised) → es ≡ es ++ []
 no_more [] = refl
 no_more (e ∷ es) = ap (λ (l : List Raised). e ∷ l) (no_more es)
 
-notify_case : (caller id : ℕ) (s : Plain) (event : Tree) (pattern : Template) (lease : Lease) (o : Out) (picks : List Pick) (s' : Plain) → Numbered s → Case s caller (Notify event pattern lease) None o picks s' → o ≡ out.Notifier id → SinceOf id event pattern s.events s'
+pub notify_case : (caller id : ℕ) (s : Plain) (event : Tree) (pattern : Template) (lease : Lease) (o : Out) (picks : List Pick) (s' : Plain) → Numbered s → Case s caller (Notify event pattern lease) None o picks s' → o ≡ out.Notifier id → SinceOf id event pattern s.events s'
 notify_case caller id s event pattern lease o picks s' n case e =
     serve_kept caller Tick (SinceOf id event pattern s.events) (since_keeps id event pattern s.events caller Tick) _ picks s' case.1
     ((since_keeps id event pattern s.events caller Tick).ages (outcome s caller (Notify event pattern lease) None).after (record {
@@ -234,41 +234,38 @@ until_running : (st : Hearing) (es : List Raised) → is_running st ≡ true →
 until_running hearing.Running es e = refl
 until_running (hearing.Closed l u) es e = cc
 
-queue_since : (n : Notifier) (event : Tree) (pattern : Template) (base grown es : List Raised) → es ≡ base ++ grown → Same event pattern (length base) n → is_running n.state ≡ true → HearsSince event pattern es grown n
-queue_since n event pattern base grown es e same runs = record {
+queue_since : (n : Notifier) (event : Tree) (pattern : Template) (popped : ℕ) (base grown es : List Raised) → es ≡ base ++ grown → Same event pattern (length base) n → n.popped ≡ popped → is_running n.state ≡ true → HearsSince event pattern popped es grown n
+queue_since n event pattern popped base grown es e same count runs = record {
   event_is = same.event_is;
   pattern_is = same.pattern_is;
   queue_is = ap (λ (l : List Raised). drop n.popped (filter (hears n) (drop n.since l))) (until_running n.state es runs ∙ e)
       ∙ ap (λ (k : ℕ). drop n.popped (filter (hears n) (drop k (base ++ grown)))) same.since_is
-      ∙ ap (λ (l : List Raised). drop n.popped (filter (hears n) l)) (dropped base grown);
+      ∙ ap (λ (l : List Raised). drop n.popped (filter (hears n) l)) (dropped base grown)
+      ∙ ap (λ (k : ℕ). drop k (filter (hears n) grown)) count;
 }
 
-pub queue_exact : (before later : List Turn) (turn : Turn) (event : Tree) (pattern : Template) (lease : Lease) (id : ℕ) (n : Notifier) →
-    Legal (before ++ turn ∷ later) → turn.event ≡ Notify event pattern lease → turn.out ≡ out.Notifier id →
-    notifier_at (plain (before ++ turn ∷ later)) id ≡ Some n → is_running n.state ≡ true →
-    (since : List Raised) × ((plain (before ++ turn ∷ later)).events ≡ (found_by (plain before) turn.at).events ++ since) × HearsSince event pattern (plain (before ++ turn ∷ later)).events since n
-queue_exact before later turn event pattern lease id n legal is e there runs =
-    (all.grown, all.events, queue_since n event pattern ready.events all.grown (plain (before ++ turn ∷ later)).events all.events (all.rows n there) runs)
-  where
-    s : Plain
-    s = plain before
+module _ (before later : List Turn) (turn : Turn) (event : Tree) (pattern : Template) (lease : Lease) (id : ℕ) (legal : Legal (before ++ turn ∷ later)) (is : turn.event ≡ Notify event pattern lease) (e : turn.out ≡ out.Notifier id) where
+  pub rest : LegalFrom (plain before) (turn ∷ later)
+  rest = LegalFrom-back opening before (turn ∷ later) legal
 
-    ready : Plain
-    ready = found_by (plain before) turn.at
+  both : Both (plain before)
+  both = reached opening before sound_opening.numbered (record { nobody = refl; not_due = refl; kept = refl }) (LegalFrom-front opening before (turn ∷ later) legal)
 
-    rest : LegalFrom (plain before) (turn ∷ later)
-    rest = LegalFrom-back opening before (turn ∷ later) legal
+  pub sound : Sound (found_by (plain before) turn.at)
+  sound = found_kept turn.caller Tick Sound (sound_keeps turn.caller Tick) (plain before) turn.at (record { numbered = both.numbered; kept = both.settled.kept })
 
-    both : Both (plain before)
-    both = reached opening before sound_opening.numbered (record { nobody = refl; not_due = refl; kept = refl }) (LegalFrom-front opening before (turn ∷ later) legal)
+  pub notifies : Step (plain before) turn.caller turn.at (Notify event pattern lease) turn.out turn.picks (after (plain before) turn)
+  notifies = subst (λ (x : Event). Step (plain before) turn.caller turn.at x turn.out turn.picks (after (plain before) turn)) is rest.0.step
 
-    sound : Sound (found_by (plain before) turn.at)
-    sound = found_kept turn.caller Tick Sound (sound_keeps turn.caller Tick) (plain before) turn.at (record { numbered = both.numbered; kept = both.settled.kept })
+  -- what is so once it is registered
+  pub registered : SinceOf id event pattern (found_by (plain before) turn.at).events (after (plain before) turn)
+  registered = notify_case turn.caller id (found_by (plain before) turn.at) event pattern lease turn.out turn.picks (after (plain before) turn) sound.numbered notifies e
 
-    first : SinceOf id event pattern (found_by (plain before) turn.at).events (after (plain before) turn)
-    first = notify_case turn.caller id (found_by (plain before) turn.at) event pattern lease turn.out turn.picks (after (plain before) turn) sound.numbered
-        (subst (λ (x : Event). Step (plain before) turn.caller turn.at x turn.out turn.picks (after (plain before) turn)) is rest.0.step) e
+  all : SinceOf id event pattern (found_by (plain before) turn.at).events (plain (before ++ turn ∷ later))
+  all = subst (λ (p : Plain). SinceOf id event pattern (found_by (plain before) turn.at).events p) (sym (plain_from-append opening before (turn ∷ later)))
+      (since_from id event pattern (found_by (plain before) turn.at).events (after (plain before) turn) later rest.1 registered)
 
-    all : SinceOf id event pattern (found_by (plain before) turn.at).events (plain (before ++ turn ∷ later))
-    all = subst (λ (p : Plain). SinceOf id event pattern (found_by (plain before) turn.at).events p) (sym (plain_from-append opening before (turn ∷ later)))
-        (since_from id event pattern (found_by (plain before) turn.at).events (after (plain before) turn) later rest.1 first)
+  pub queue_exact : (n : Notifier) (popped : ℕ) → n.popped ≡ popped → notifier_at (plain (before ++ turn ∷ later)) id ≡ Some n → is_running n.state ≡ true →
+      (since : List Raised) × ((plain (before ++ turn ∷ later)).events ≡ (found_by (plain before) turn.at).events ++ since) × HearsSince event pattern popped (plain (before ++ turn ∷ later)).events since n
+  queue_exact n popped count there runs =
+      (all.grown, all.events, queue_since n event pattern popped (found_by (plain before) turn.at).events all.grown (plain (before ++ turn ∷ later)).events all.events (all.rows n there) count runs)

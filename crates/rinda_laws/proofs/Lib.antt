@@ -5,5 +5,7 @@ pub mod Balancing
 pub mod Holding
 pub mod Letting
 pub mod Hearing
+pub mod Popping
 pub mod Deciding
 pub mod Overdue
+pub mod Expiring

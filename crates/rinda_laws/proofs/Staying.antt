@@ -189,7 +189,7 @@ rest_kept states owner id caller free s picks s' serve h =
 pub owns_found : (states : RequestState → Bool) (owner id caller : ℕ) (free : Open states) (s : Plain) (at : ℕ) → Owns states owner id s → Owns states owner id (found_by s at)
 owns_found states owner id caller free s at h = found_kept caller Tick (Owns states owner id) (tick_keeps states owner id caller free) s at h
 
-told_found : (caller : ℕ) (s : Plain) (at : ℕ) → Told s → Told (found_by s at)
+pub told_found : (caller : ℕ) (s : Plain) (at : ℕ) → Told s → Told (found_by s at)
 told_found caller s at h = found_kept caller Tick Told (told_keeps caller Tick) s at h
 
 own_case : (caller id : ℕ) (s : Plain) (event : Event) (r : Option Request) (o : Out) (picks : List Pick) (s' : Plain) → Case s caller event r o picks s' → is_of id event ≡ true → is_last o ≡ false → Told s → Owns any caller id s → Owns any caller id s'

@@ -1,5 +1,5 @@
 -- When a request is answered Expired or Canceled.
-use Rattle.std.specs.Prelude.{◌≡◌, ℕ, Bool, true, false, not, ◌&&◌, ◌||◌, ◌==◌, List, [], ◌∷◌, ◌++◌, Some, is_none}
+use Rattle.std.specs.Prelude.{◌≡◌, ℕ, Bool, true, false, not, ◌&&◌, ◌||◌, ◌==◌, List, [], ◌∷◌, ◌++◌, Option, Some, None, is_none}
 use Rattle.std.specs.List.{list_any}
 use Rattle.rinda_rules.specs.declared.object.ObjectKind.{ObjectKind}
 use Rattle.rinda_rules.specs.declared.object.ObjectKind.TheVariants as object
@@ -9,10 +9,14 @@ use Rattle.rinda_rules.specs.declared.out.Out.{Out}
 use Rattle.rinda_rules.specs.declared.out.Out.TheVariants as out
 use Rattle.rinda_rules.specs.declared.row.RequestState.{RequestState}
 use Rattle.rinda_rules.specs.declared.row.RequestState.TheVariants as state
+use Rattle.rinda_rules.specs.declared.plain.Entry.{Entry}
 use Rattle.rinda_rules.specs.declared.plain.Request.{Request}
+use Rattle.rinda_rules.specs.declared.turn.Pick.{Pick}
 use Rattle.rinda_rules.specs.declared.turn.Turn.{Turn}
-use Rattle.rinda_rules.specs.Space.{Plain, Found, TheTuple, TheRequest, TheNotifier, HasEnded, IsRecycled, IsUnknown, found, request_at, is_over, has_match}
-use Rattle.rinda_rules.specs.Steps.{found_by}
+use Rattle.rinda_rules.specs.Space.{Plain, Found, TheTuple, TheRequest, TheNotifier, HasEnded, IsRecycled, IsUnknown, found, tuple_at, request_at, is_over, is_waiting, has_match}
+use Rattle.rinda_rules.specs.Phases.{advanced}
+use Rattle.rinda_rules.specs.Cases.{outcome}
+use Rattle.rinda_rules.specs.Steps.{chooser, found_by}
 use Rattle.rinda_rules.specs.Legal.{plain, Legal}
 
 abbrev pub is_expired_out : Out → Bool
@@ -91,6 +95,42 @@ may_expire s Tick = false
 -- match; of a request that was answered so before; or of a notifier that has ended.
 abbrev pub ExpiredOnly : Type 0
 ExpiredOnly = (h : List Turn) (turn : Turn) → Legal (h ++ turn ∷ []) → turn.out ≡ out.Expired → may_expire (found_by (plain h) turn.at) turn.event ≡ true
+
+-- In that space the request waits, its deadline is at most now, and it has no renewer: aging answers it Expired.
+pub record RunsOut (id : ℕ) (s : Plain) : Type 0 where
+  pub row : Request
+  pub there : request_at s id ≡ Some row
+  pub waits : is_waiting row ≡ true
+  pub over : is_over s.clock row.deadline ≡ true
+  pub alone : is_none row.renewer ≡ true
+
+-- the tuple that the first pick names, where the event makes one for that request
+abbrev pub choice_of : Plain → Option Request → List Pick → Option Entry
+choice_of s None picks = None
+choice_of s (Some r) [] = None
+choice_of s (Some r) (pick ∷ picks) = tuple_at s pick.tuple
+
+-- the space as the turn's event leaves it, before it ages again
+abbrev pub left_by : Plain → Turn → Plain
+left_by s turn = (outcome (found_by s turn.at) turn.caller turn.event (choice_of (found_by s turn.at) (chooser (found_by s turn.at) turn.caller turn.event) turn.picks)).after
+
+-- A turn lets the space age twice: as it comes, and as its event leaves it. In one of the two the request runs out.
+pub data DecidesSo (id : ℕ) (s : Plain) (turn : Turn) : Type 0 where
+  as_it_comes : RunsOut id (advanced s turn.at) → DecidesSo id s turn
+  as_it_leaves : RunsOut id (left_by s turn) → DecidesSo id s turn
+
+-- one of these turns decided that the request expired
+pub record Decided (id : ℕ) (h : List Turn) : Type 0 where
+  pub before : List Turn
+  pub turn : Turn
+  pub later : List Turn
+  pub parts : h ≡ before ++ turn ∷ later
+  pub decides : DecidesSo id (plain before) turn
+
+-- A request that a turn finds answered Expired was decided so by a turn before, or by that turn: in it the request's
+-- deadline was at most now, and it had no renewer.
+abbrev pub ExpiredIsDecided : Type 0
+ExpiredIsDecided = (h : List Turn) (turn : Turn) → Legal (h ++ turn ∷ []) → (id : ℕ) (r : Request) → request_at (found_by (plain h) turn.at) id ≡ Some r → was_expired r.state ≡ true → Decided id (h ++ turn ∷ [])
 
 -- A request that was answered Expired has a deadline that is at most now, and no renewer.
 abbrev pub ExpiredIsOver : Type 0

@@ -73,3 +73,32 @@ pub struct Turn {
     pub out: Out,
     pub picks: Picks,
 }
+
+impl Turn {
+    /// An equal turn.
+    ///
+    /// Errors: only want of memory.
+    pub fn copy(&self, alloc: Global) -> Result<Turn, AllocError>
+        ensures { IfOk result (λ turn. turn ≡ self.now) }
+    {
+        let picks = self.picks.copy(alloc)?;
+        let out = self.out.copy(alloc)?;
+        copy_with(alloc, self, out, picks)
+    }
+}
+
+/// The turn again, with that answer and these picks.
+///
+/// Errors: only want of memory.
+fn copy_with(alloc: Global, turn: &Turn, out: Out, picks: Picks) -> Result<Turn, AllocError>
+    ensures { IfOk result (λ copied. copied ≡ record { caller = turn.now.caller; at = turn.now.at; event = turn.now.event; out = out; picks = picks }) }
+{
+    let event = turn.event.copy(alloc)?;
+    Ok(Turn {
+        caller: turn.caller,
+        at: turn.at,
+        event,
+        out,
+        picks,
+    })
+}

@@ -1,0 +1,10 @@
+pub mod Steps
+pub mod Leaves
+pub mod Arguments
+pub mod Texts
+pub mod Keeping
+pub mod Ending
+pub mod Giving
+pub mod Wholes
+pub mod Nodes
+pub mod Chains

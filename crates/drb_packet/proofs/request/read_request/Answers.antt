@@ -1,0 +1,8 @@
+use Rattle.drb_packet.proofs.Wholes.{told_request, told_no_request}
+use Rattle.drb_packet.proofs.request.read_request.Goals as goal
+
+pub returns-in-Ok-clause-next : goal.returns-in-Ok-clause-next
+returns-in-Ok-clause-next g c = told_request c.args.limits.now c.in-Ok.request _ _ _ c.in-Ok.ensures.reads
+
+pub returns-in-Err-End-clause-next : goal.returns-in-Err-End-clause-next
+returns-in-Err-End-clause-next g c = told_no_request c.args.limits.now _ _ _ (rw c.in-Err-End.field-0-is at c.in-Err-End.ensures.reads)

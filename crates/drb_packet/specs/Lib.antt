@@ -1,0 +1,9 @@
+pub mod Stops
+pub mod Fronts
+pub mod Packets
+pub mod Requests
+pub mod Replies
+pub mod Texts
+pub mod Reads
+pub mod Writes
+pub mod Laws

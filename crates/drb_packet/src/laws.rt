@@ -1,0 +1,27 @@
+//! What the definitions keep: each function is a theorem, which its contract states.
+
+ghost use Rattle.drb_packet.specs.Laws.{RequestsAnyMore, RepliesAnyMore, RequestsBehind, RepliesBehind, RequestsEnd, RepliesEnd};
+
+/// What the first bytes decide, they decide whatever follows them.
+///
+/// Source: docs/WIRE.md, What stands first.
+pub fn any_more()
+    ensures requests { RequestsAnyMore }
+    ensures replies { RepliesAnyMore }
+{}
+
+/// The bytes behind a request, a reply or a refusal are the end of all the bytes.
+///
+/// Source: docs/WIRE.md, What stands first.
+pub fn behind()
+    ensures requests { RequestsBehind }
+    ensures replies { RepliesBehind }
+{}
+
+/// Nothing stands first exactly where there are no bytes.
+///
+/// Source: docs/WIRE.md, What stands first.
+pub fn ends_at_end()
+    ensures requests { RequestsEnd }
+    ensures replies { RepliesEnd }
+{}
