@@ -2,10 +2,10 @@
 # Sets the reader and the writer of dumps beside dumps that real Ruby made: each file d_*.hex or g_*.hex of the folder
 # vectors must be read, refused and written as its INDEX.md says, where NAME.out.hex has what is written otherwise than
 # it was read. Prints a line for each difference, and ends with a count; the status is 1 where there is a difference.
-# PEER names the folder that holds vectors.
+# PEER names the folder that holds vectors (peer if none is named).
 set -eu
 cd "$(dirname "$0")/.."
-vectors=${PEER:-../shared/peer}/vectors
+vectors=${PEER:-peer}/vectors
 if [ ! -d "$vectors" ]; then
   echo "No folder of dumps from Ruby here: nothing is compared."
   exit 0
