@@ -1,0 +1,7 @@
+pub mod Ages
+pub mod Asks
+pub mod Counting
+pub mod Heard
+pub mod Nodes
+pub mod Pops
+pub mod Replaying

@@ -1,0 +1,8 @@
+use Rattle.std.proofs.Common.{◌≡◌, take}
+use Rattle.rinda_rules.specs.Rows.{changed}
+use Rattle.rinda_audit.specs.Changes.{notifier_after}
+use Rattle.rinda_audit.proofs.changes.change_notifiers.Given as goal
+
+-- what was made so far, with what is left
+abbrev pub invariant-loop-row : goal.invariant-loop-row
+invariant-loop-row l = l.changed.items ≡ changed (λ row. row.id) l.id (notifier_after l.change) (take l.row-index l.rows)

@@ -1,0 +1,5 @@
+pub mod Changes
+pub mod Finds
+pub mod Asks
+pub mod Counts
+pub mod Replays

@@ -1,0 +1,30 @@
+//! The judge of histories: a plain space that replays turns one after another.
+//!
+//! It stands on the rules of the space alone, and keeps its rows in plain lists, as `rinda_rules`' specs have them.
+//! It promises of each turn that it says yes exactly where the turn, with its answer and the matches that it picked, is
+//! a step of the rules from the state that the turns before it left, and that it then has the next state. Read `state`
+//! first, with `rows`, `changes` and `aging` below it; then what each event does, in `requests`, `objects` and
+//! `outcome`; then `serving` and `steps`. `equality` tells two answers apart. docs/SPACE.md has the rules in prose.
+#![tactic(auto)]
+
+mod aging;
+mod asking;
+mod changes;
+mod copies;
+mod equality;
+mod flags;
+mod found;
+mod fresh;
+mod objects;
+mod outcome;
+mod queue;
+mod requests;
+mod row;
+mod rows;
+mod serving;
+mod state;
+mod steps;
+#[cfg(test)]
+mod tests;
+
+pub use state::Replay;
