@@ -1,6 +1,6 @@
 //! Dumps of every form, read, written, and read again.
 
-use drb_value::same;
+use drb_value::{Value, same};
 use marshal_read::read_dump;
 use marshal_write::write_dump;
 use std::alloc::Global;
@@ -37,13 +37,22 @@ const DUMPS: [&[u8]; 14] = [
     b"\x04\x08u:\x13DRb::DRbObject\x28\x04\x08[\x07I\"\x1bdruby://127.0.0.1:8787\x06:\x06ET0",
 ];
 
-/// Whether the value of the dump is the same once it was written and read again, to the end of what was written.
+/// Whether the value is the same once it was written and read again, to the end of what was written.
+fn is_read_again(alloc: Global, value: &Value) -> Result<bool, Fail> {
+    let mut written = Vec::new(alloc);
+    write_dump(value, &mut written)?;
+    let (again, size) = read_dump(alloc, written.as_slice())?;
+    let is_same = same(value, &again) && size == written.len();
+    drop(again);
+    Ok(is_same)
+}
+
+/// Whether the value of the dump is.
 fn comes_back(alloc: Global, dump: &[u8]) -> Result<bool, Fail> {
     let (value, _) = read_dump(alloc, dump)?;
-    let mut written = Vec::new(alloc);
-    write_dump(&value, &mut written)?;
-    let (again, size) = read_dump(alloc, written.as_slice())?;
-    Ok(same(&value, &again) && size == written.len())
+    let back = is_read_again(alloc, &value);
+    drop(value);
+    back
 }
 
 fn all_come_back(alloc: Global) -> Result<bool, Fail> {
