@@ -1,13 +1,9 @@
 //! Dumps read, and templates and tuples of them matched.
 
-ghost use Rattle.std.specs.Prelude.{◌≡◌, ◌<◌};
-
 use drb_value::Value;
 use marshal_read::read_dump;
-use rinda_tuple::{Steps, Template, Tuple, matches, template_of, tuple_of};
+use rinda_tuple::{Template, Tuple, is_match, template_of, tuple_of};
 use std::alloc::Global;
-use std::marker::Brand;
-use std::sync::ledger::{Blank, Ledger};
 use std::test::Fail;
 
 /// The reference of the object 1 of `druby://127.0.0.1:8787`.
@@ -60,16 +56,7 @@ pub fn tuple(alloc: Global, dump: &[u8]) -> Result<Tuple, Fail> {
 pub fn suits(alloc: Global, template_dump: &[u8], tuple_dump: &[u8]) -> Result<bool, Fail> {
     let t = template(alloc, template_dump)?;
     let u = tuple(alloc, tuple_dump)?;
-    Ok(suits_once::<Brand>(&t, &u, Blank::new(1)))
-}
-
-fn suits_once<L: Ledger>(t: &Template, u: &Tuple, blank: Blank) -> bool
-    requires name { blank.name ≡ L.name }
-    requires parts { blank.parts ≡ L.parts }
-    requires some { 0 < L.parts }
-{
-    let mut steps = Steps::<L>::new(blank);
-    matches(t, u, &mut steps)
+    Ok(is_match(&t, &u))
 }
 
 /// The first value for which it does not hold as wanted that the template of that dump matches the tuple of the value
