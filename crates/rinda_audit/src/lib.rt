@@ -24,7 +24,5 @@ mod rows;
 mod serving;
 mod state;
 mod steps;
-#[cfg(test)]
-mod tests;
 
 pub use state::Replay;

@@ -1,8 +1,8 @@
 //! Histories as tables, and how they are played.
 
-use crate::Replay;
 use drb_tree::{Code, RefId, Remote, Text};
 use drb_value::{Name, Value};
+use rinda_audit::Replay;
 use rinda_rules::{Event, Flags, Kind, Out, Pick, Picks, Turn};
 use rinda_tuple::{Lease, Life, Template, Tuple};
 use sqlite_items::Items;

@@ -1,8 +1,6 @@
 //! Histories of which each act is said to come or to be refused, as docs/SPACE.md has it.
 
-mod acts;
-
-use acts::{Act, Told, What, played};
+use crate::acts::{Act, Told, What, played};
 use rinda_rules::{Flags, Kind};
 use rinda_tuple::Life;
 use std::test::Fail;
