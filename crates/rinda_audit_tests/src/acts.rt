@@ -281,12 +281,10 @@ fn comes_as_told(alloc: Global, replay: &mut Replay, act: Act) -> Result<bool, F
 /// that isn't.
 pub fn played(alloc: Global, acts: &[Act]) -> Result<usize, Fail> {
     let mut replay = Replay::new(alloc);
-    let mut count = 0;
-    for act in acts {
+    for (i, act) in acts.iter().enumerate() {
         if !comes_as_told(alloc, &mut replay, *act)? {
-            break;
+            return Ok(i);
         }
-        count += 1;
     }
-    Ok(count)
+    Ok(acts.len())
 }
