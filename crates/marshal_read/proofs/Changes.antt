@@ -1,82 +1,115 @@
 -- What contracts see of a reader, as its tables change.
-use Rattle.std.proofs.Common.{◌≡◌, ℕ, ◌+◌, ◌<◌, List, [], ◌∷◌, ◌++◌, length, map, Option, Some, None, refl, sym, ap, ◌∙◌, arith, subst, length-append}
+use Rattle.std.proofs.Common.{◌≡◌, ℕ, ◌≤◌, List, [], ◌∷◌, ◌++◌, length, drop, Option, Some, None, option_map, refl, sym, ap, arith, subst, length-append}
 use Rattle.std.specs.Prelude.{zero, suc, slice_set, slice_get}
-use Rattle.std.proofs.lemmas.List.{map-append, length-map}
+use Rattle.std.proofs.lemmas.List.{take-append-le, take_all}
 use Rattle.drb_tree.specs.declared.Tree.{Tree}
-use Rattle.marshal_grammar.specs.Contexts.{Context, finish_object}
-use Rattle.marshal_read.specs.declared.arena.Entry.{Entry}
+use Rattle.marshal_grammar.specs.Contexts.{finish_object, add_object}
+use Rattle.marshal_read.specs.declared.steps.Step.{Step}
 use Rattle.marshal_read.specs.declared.reader.Reader.TheInside.{Inside}
 use Rattle.marshal_read.specs.State.{State}
-use Rattle.marshal_read.specs.Arena.{tree_in, planted, grown, objects_at, Stands, ObjectsBelow}
-use Rattle.marshal_read.specs.View.{layer, trees_of, state_of, Sound}
-use Rattle.marshal_read.proofs.Trees.{tree_in-last, Stands-last, grown-append, length-grown, objects_at-append, objects_at-set, ObjectsBelow-more, ObjectsBelow-append, ObjectsBelow-set}
+use Rattle.marshal_read.specs.Making.{value_of, MakesOne, cut, objects_at, Stands, ObjectsStand}
+use Rattle.marshal_read.specs.View.{state_of, Sound}
 
-pub length-trees_of : (es : List Entry) → length (trees_of es) ≡ length es
-length-trees_of es = omega (arith, length-grown [] (map layer es), length-map es layer)
+-- steps that were there before stay
+cut-append : (ss ts : List Step) (r : ℕ × ℕ) → r.1 ≤ length ss → cut r (ss ++ ts) ≡ cut r ss
+cut-append ss ts r h = ap (drop r.0) (take-append-le r.1 ss ts h)
 
-pub trees_of-append : (es : List Entry) (e : Entry) → trees_of (es ++ (e ∷ [])) ≡ trees_of es ++ (planted (trees_of es) (layer e) ∷ [])
-trees_of-append es e = rw (map-append layer es (e ∷ [])) (grown-append [] (map layer es) (layer e))
-
-pub entries_length : (a : Inside) (s : State) → state_of a ≡ s → length a.entries ≡ length s.trees
-entries_length a s v = sym (length-trees_of a.entries) ∙ ap (λ (t : State). length t.trees) v
-
-pub pushed : (a : Inside) (s : State) (e : Entry) → state_of a ≡ s → Sound a → state_of (record a { entries = a.entries ++ (e ∷ []) }) ≡ record s { trees = s.trees ++ (planted s.trees (layer e) ∷ []) }
-pushed a s e v h =
-    let o : objects_at (trees_of a.entries ++ (planted (trees_of a.entries) (layer e) ∷ [])) a.objects ≡ objects_at (trees_of a.entries) a.objects = objects_at-append (trees_of a.entries) (planted (trees_of a.entries) (layer e) ∷ []) a.objects (rw (length-trees_of a.entries) h.objects) in
-    rw (trees_of-append a.entries e, o, ← v) refl
-
-pub pushed_value : (a : Inside) (s : State) (e : Entry) (i : ℕ) → state_of a ≡ s → i ≡ length a.entries → tree_in (trees_of (a.entries ++ (e ∷ []))) i ≡ planted s.trees (layer e)
-pushed_value a s e i v k =
-    let t : trees_of a.entries ≡ s.trees = ap (λ (z : State). z.trees) v in
-    let n : i ≡ length (trees_of a.entries) = k ∙ sym (length-trees_of a.entries) in
-    ap (λ (ts : List Tree). tree_in ts i) (trees_of-append a.entries e)
-    ∙ ap (tree_in (trees_of a.entries ++ (planted (trees_of a.entries) (layer e) ∷ []))) n
-    ∙ tree_in-last (trees_of a.entries) (planted (trees_of a.entries) (layer e))
-    ∙ ap (λ (ts : List Tree). planted ts (layer e)) t
-
-pub pushed_stands : (a : Inside) (s : State) (e : Entry) (i : ℕ) → state_of a ≡ s → i ≡ length a.entries → Stands i s.trees (trees_of (a.entries ++ (e ∷ [])))
-pushed_stands a s e i v k =
-    let t : trees_of a.entries ≡ s.trees = ap (λ (z : State). z.trees) v in
-    let n : i ≡ length (trees_of a.entries) = k ∙ sym (length-trees_of a.entries) in
-    let S : ℕ → List Tree → List Tree → Type 0 = λ j x y. Stands j x y in
-    subst (λ (x : List Tree). S i x (trees_of (a.entries ++ (e ∷ [])))) t
-    (subst (λ (y : List Tree). S i (trees_of a.entries) y) (sym (trees_of-append a.entries e))
-    (subst (λ (j : ℕ). S j (trees_of a.entries) (trees_of a.entries ++ (planted (trees_of a.entries) (layer e) ∷ []))) (sym n) (Stands-last (trees_of a.entries) (planted (trees_of a.entries) (layer e)))))
-
-pub pushed_sound : (a : Inside) (e : Entry) → Sound a → Sound (record a { entries = a.entries ++ (e ∷ []) })
-pushed_sound a e h = record {
-  place = h.place;
-  objects = ObjectsBelow-more (length a.entries) (length (a.entries ++ (e ∷ []))) a.objects (omega (arith, length-append a.entries (e ∷ []))) h.objects;
+Stands-append : (ss ts : List Step) (r : ℕ × ℕ) → Stands ss r → Stands (ss ++ ts) r
+Stands-append ss ts r h = record {
+  ordered = h.ordered;
+  within = omega (arith, h.within, length-append ss ts);
+  makes = subst MakesOne (sym (cut-append ss ts r h.within)) h.makes;
 }
 
-pub finished_is : (a : Inside) (s : State) (k i : ℕ) → state_of a ≡ s → state_of (record a { objects = slice_set a.objects k (Some i) }) ≡ record s { seen = finish_object k (tree_in s.trees i) s.seen }
-finished_is a s k i v = rw (objects_at-set (trees_of a.entries) a.objects k i, ← v) refl
+ObjectsStand-append : (ss ts : List Step) (os : List (Option (ℕ × ℕ))) → ObjectsStand ss os → ObjectsStand (ss ++ ts) os
+ObjectsStand-append ss ts [] h = tt
+ObjectsStand-append ss ts (None ∷ os) h = ObjectsStand-append ss ts os h
+ObjectsStand-append ss ts (Some r ∷ os) h = (Stands-append ss ts r h.0, ObjectsStand-append ss ts os h.1)
 
-pub finished_sound : (a : Inside) (s : State) (k i : ℕ) → state_of a ≡ s → i < length s.trees → Sound a → Sound (record a { objects = slice_set a.objects k (Some i) })
-finished_sound a s k i v lt h = record {
-  place = h.place;
-  objects = ObjectsBelow-set (length a.entries) a.objects k i h.objects (omega (arith, entries_length a s v));
+objects_at-append : (ss ts : List Step) (os : List (Option (ℕ × ℕ))) → ObjectsStand ss os → objects_at (ss ++ ts) os ≡ objects_at ss os
+objects_at-append ss ts [] h = refl
+objects_at-append ss ts (None ∷ os) h = ap (λ (xs : List (Option Tree)). None ∷ xs) (objects_at-append ss ts os h)
+objects_at-append ss ts (Some r ∷ os) h = rw (cut-append ss ts r h.0.within, objects_at-append ss ts os h.1) refl
+
+-- a further object
+ObjectsStand-one : (ss : List Step) (os : List (Option (ℕ × ℕ))) (o : Option (ℕ × ℕ)) → ObjectsStand ss os → ObjectsStand ss (o ∷ []) → ObjectsStand ss (os ++ (o ∷ []))
+ObjectsStand-one ss [] o h k = k
+ObjectsStand-one ss (None ∷ os) o h k = ObjectsStand-one ss os o h k
+ObjectsStand-one ss (Some r ∷ os) o h k = (h.0, ObjectsStand-one ss os o h.1 k)
+
+objects_at-one : (ss : List Step) (os : List (Option (ℕ × ℕ))) (o : Option (ℕ × ℕ)) → objects_at ss (os ++ (o ∷ [])) ≡ objects_at ss os ++ (option_map (λ r. value_of (cut r ss)) o ∷ [])
+objects_at-one ss [] o = refl
+objects_at-one ss (p ∷ os) o = ap (λ (xs : List (Option Tree)). option_map (λ r. value_of (cut r ss)) p ∷ xs) (objects_at-one ss os o)
+
+ObjectsStand-set : (ss : List Step) (os : List (Option (ℕ × ℕ))) (k : ℕ) (r : ℕ × ℕ) → ObjectsStand ss os → Stands ss r → ObjectsStand ss (slice_set os k (Some r))
+ObjectsStand-set ss [] k r h s = h
+ObjectsStand-set ss (None ∷ os) zero r h s = (s, h)
+ObjectsStand-set ss (Some q ∷ os) zero r h s = (s, h.1)
+ObjectsStand-set ss (None ∷ os) (suc k) r h s = ObjectsStand-set ss os k r h s
+ObjectsStand-set ss (Some q ∷ os) (suc k) r h s = (h.0, ObjectsStand-set ss os k r h.1 s)
+
+objects_at-set : (ss : List Step) (os : List (Option (ℕ × ℕ))) (k : ℕ) (r : ℕ × ℕ) → objects_at ss (slice_set os k (Some r)) ≡ slice_set (objects_at ss os) k (Some (value_of (cut r ss)))
+objects_at-set ss [] k r = refl
+objects_at-set ss (o ∷ os) zero r = refl
+objects_at-set ss (o ∷ os) (suc k) r = ap (λ (xs : List (Option Tree)). option_map (λ q. value_of (cut q ss)) o ∷ xs) (objects_at-set ss os k r)
+
+-- the steps up to the last
+pub cut_to_end : (ss : List Step) (s e : ℕ) → e ≡ length ss → cut (s, e) ss ≡ drop s ss
+cut_to_end ss s e h = ap (drop s) (take_all e ss (omega (arith, h)))
+
+pub stands_to_end : (ss : List Step) (s e : ℕ) → e ≡ length ss → s ≤ length ss → MakesOne (drop s ss) → Stands ss (s, e)
+stands_to_end ss s e h le m = record {
+  ordered = omega (arith, h);
+  within = omega (arith, h);
+  makes = subst MakesOne (sym (cut_to_end ss s e h)) m;
 }
 
-pub added_sound : (a : Inside) (s : State) (i : ℕ) → state_of a ≡ s → i < length s.trees → Sound a → Sound (record a { objects = a.objects ++ (Some i ∷ []) })
-added_sound a s i v lt h = record {
-  place = h.place;
-  objects = ObjectsBelow-append (length a.entries) a.objects (Some i) h.objects (omega (arith, entries_length a s v), tt);
-}
+pub steps_are : (a : Inside) (s : State) → state_of a ≡ s → a.steps ≡ s.steps
+steps_are a s v = ap (λ (z : State). z.steps) v
+
+pub pushed : (a : Inside) (s : State) (x : Step) → state_of a ≡ s → Sound a → state_of (record a { steps = a.steps ++ (x ∷ []) }) ≡ record s { steps = s.steps ++ (x ∷ []) }
+pushed a s x v h = rw (objects_at-append a.steps (x ∷ []) a.objects h.objects, ← v) refl
+
+pub pushed_sound : (a : Inside) (x : Step) → Sound a → Sound (record a { steps = a.steps ++ (x ∷ []) })
+pushed_sound a x h = record { place = h.place; objects = ObjectsStand-append a.steps (x ∷ []) a.objects h.objects }
 
 pub begun_sound : (a : Inside) → Sound a → Sound (record a { objects = a.objects ++ (None ∷ []) })
-begun_sound a h = record {
-  place = h.place;
-  objects = ObjectsBelow-append (length a.entries) a.objects None h.objects tt;
+begun_sound a h = record { place = h.place; objects = ObjectsStand-one a.steps a.objects None h.objects tt }
+
+pub begun_is : (a : Inside) → objects_at a.steps (a.objects ++ (None ∷ [])) ≡ objects_at a.steps a.objects ++ (None ∷ [])
+begun_is a = objects_at-one a.steps a.objects None
+
+pub finished_is : (a : Inside) (s : State) (k : ℕ) (b e : ℕ) → state_of a ≡ s → e ≡ length a.steps
+    → state_of (record a { objects = slice_set a.objects k (Some (b, e)) }) ≡ record s { seen = finish_object k (value_of (drop b s.steps)) s.seen }
+finished_is a s k b e v h = rw (objects_at-set a.steps a.objects k (b, e), cut_to_end a.steps b e h, ← v) refl
+
+pub finished_sound : (a : Inside) (s : State) (k b e : ℕ) → state_of a ≡ s → e ≡ length a.steps → b ≤ length s.steps → MakesOne (drop b s.steps) → Sound a
+    → Sound (record a { objects = slice_set a.objects k (Some (b, e)) })
+finished_sound a s k b e v h le m snd = record {
+  place = snd.place;
+  objects = ObjectsStand-set a.steps a.objects k (b, e) snd.objects
+      (stands_to_end a.steps b e h (omega (arith, ap length (steps_are a s v))) (subst (λ (ss : List Step). MakesOne (drop b ss)) (sym (steps_are a s v)) m));
 }
 
--- a finished object is the value of one of the entries
-below_at : (n : ℕ) (os : List (Option ℕ)) (k i : ℕ) → ObjectsBelow n os → slice_get os k ≡ Some (Some i) → i < n
-below_at n [] k i h e = absurd (cc)
-below_at n (None ∷ os) zero i h e = absurd (cc)
-below_at n (Some j ∷ os) zero i h e = let q : i ≡ j = cc in rw q h.0
-below_at n (None ∷ os) (suc k) i h e = below_at n os k i h e
-below_at n (Some j ∷ os) (suc k) i h e = below_at n os k i h.1 e
+pub added_is : (a : Inside) (s : State) (b e : ℕ) → state_of a ≡ s → e ≡ length a.steps
+    → state_of (record a { objects = a.objects ++ (Some (b, e) ∷ []) }) ≡ record s { seen = add_object (value_of (drop b s.steps)) s.seen }
+added_is a s b e v h = rw (objects_at-one a.steps a.objects (Some (b, e)), cut_to_end a.steps b e h, ← v) refl
 
-pub object_within : (a : Inside) (s : State) (k i : ℕ) → state_of a ≡ s → Sound a → slice_get a.objects k ≡ Some (Some i) → i < length s.trees
-object_within a s k i v h e = omega (arith, entries_length a s v, below_at (length a.entries) a.objects k i h.objects e)
+pub added_sound : (a : Inside) (s : State) (b e : ℕ) → state_of a ≡ s → e ≡ length a.steps → b ≤ length s.steps → MakesOne (drop b s.steps) → Sound a
+    → Sound (record a { objects = a.objects ++ (Some (b, e) ∷ []) })
+added_sound a s b e v h le m snd = record {
+  place = snd.place;
+  objects = ObjectsStand-one a.steps a.objects (Some (b, e)) snd.objects
+      (stands_to_end a.steps b e h (omega (arith, ap length (steps_are a s v))) (subst (λ (ss : List Step). MakesOne (drop b ss)) (sym (steps_are a s v)) m), tt);
+}
+
+-- a finished object is made by steps that are there
+stands_at : (ss : List Step) (os : List (Option (ℕ × ℕ))) (k : ℕ) (r : ℕ × ℕ) → ObjectsStand ss os → slice_get os k ≡ Some (Some r) → Stands ss r
+stands_at ss [] k r h e = absurd (cc)
+stands_at ss (None ∷ os) zero r h e = absurd (cc)
+stands_at ss (Some q ∷ os) zero r h e = let p : r ≡ q = cc in rw p h.0
+stands_at ss (None ∷ os) (suc k) r h e = stands_at ss os k r h e
+stands_at ss (Some q ∷ os) (suc k) r h e = stands_at ss os k r h.1 e
+
+pub object_stands : (a : Inside) (s : State) (k : ℕ) (r : ℕ × ℕ) → state_of a ≡ s → Sound a → slice_get a.objects k ≡ Some (Some r) → Stands s.steps r
+object_stands a s k r v h e = subst (λ (ss : List Step). Stands ss r) (steps_are a s v) (stands_at a.steps a.objects k r h.objects e)

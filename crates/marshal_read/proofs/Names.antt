@@ -10,7 +10,7 @@ use Rattle.marshal_read.specs.declared.error.ReadError.{ReadError}
 use Rattle.marshal_grammar.specs.declared.refusal.Why.TheVariants as why
 use Rattle.marshal_grammar.specs.Grammar.{must, becomes, gives, ◌>>=◌, ◌>>◌}
 use Rattle.marshal_grammar.specs.Reading.{read}
-use Rattle.marshal_read.proofs.Steps.{then_ok, then_err, fails_as}
+use Rattle.marshal_read.proofs.Followed.{then_ok, then_err, fails_as}
 use Rattle.marshal_read.specs.State.{State}
 use Rattle.marshal_read.specs.Fails.{Fails, reading}
 

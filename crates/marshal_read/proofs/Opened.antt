@@ -1,5 +1,5 @@
 -- A value by its first byte.
-use Rattle.std.proofs.Common.{◌≡◌, ℕ, zero, suc, ◌-◌, ◌+◌, List, Bool, true, false, Option, Some, None, Ok, Err, refl, sym, ap, ◌∙◌, subst, arith, Result, IfOk, IfErr, add-one}
+use Rattle.std.proofs.Common.{◌≡◌, ℕ, zero, suc, ◌-◌, List, Bool, true, false, Option, Some, None, Ok, Err, refl, sym, ap, ◌∙◌, arith}
 use Rattle.drb_tree.specs.declared.Tree.{Tree}
 use Rattle.drb_tree.specs.declared.Remote.{Remote}
 use Rattle.marshal_grammar.specs.declared.kind.Kind.{Kind}
@@ -11,13 +11,13 @@ use Rattle.marshal_grammar.specs.Contexts.{Context, opening}
 use Rattle.marshal_grammar.specs.Dumps.{dump_with, reference, some_remote}
 use Rattle.marshal_grammar.specs.Trees.{remote_of}
 use Rattle.marshal_read.specs.declared.error.ReadError.{ReadError}
-use Rattle.marshal_grammar.specs.Grammar.{Grammar, byte}
-use Rattle.marshal_grammar.specs.Reading.{Read, read, refuse}
+use Rattle.marshal_grammar.specs.Grammar.{byte}
+use Rattle.marshal_grammar.specs.Reading.{read, refuse}
 use Rattle.marshal_grammar.specs.Values.{value, body, typed, too_deep}
 use Rattle.marshal_read.specs.State.{State}
 use Rattle.marshal_read.specs.Fails.{Fails, reading}
 use Rattle.marshal_read.specs.Scopes.{reference_in, part_in, given}
-use Rattle.marshal_read.proofs.Steps.{then_ok, then_err, fails_as}
+use Rattle.marshal_read.proofs.Followed.{then_ok, then_err, fails_as}
 
 -- with a level left, a value is its body
 pub opened : (nested : Bool) (room b : ℕ) (k : Kind) (at : ℕ) (s t : State) → (room ≡ 0 → ⊥) → at ≡ s.seen.at → reading byte s ≡ Ok (b, t.seen, t.rest) → Some k ≡ kind_of b

@@ -1,10 +1,9 @@
 -- Parts of values, one after the other.
-use Rattle.std.proofs.Common.{◌≡◌, ℕ, zero, suc, ◌+◌, ◌-◌, ◌<◌, ◌≤◌, List, [], ◌∷◌, ◌++◌, append_assoc, length, map, Bool, true, false, not, ◌||◌, Ok, Err, refl, sym, ap, ◌∙◌, subst, arith}
-use Rattle.std.proofs.lemmas.List.{map-append, append-nil}
+use Rattle.std.proofs.Common.{◌≡◌, ℕ, suc, ◌+◌, ◌-◌, ◌<◌, ◌≤◌, List, [], ◌∷◌, ◌++◌, append_assoc, Bool, true, false, not, ◌||◌, Ok, Err, refl, ap, ◌∙◌, arith, bytes_eq}
+use Rattle.std.proofs.lemmas.List.{append-nil}
 use Rattle.drb_tree.specs.declared.Tree.{Tree}
 use Rattle.drb_tree.specs.Same.{same}
 use Rattle.drb_tree.specs.Kept.{has_key, has_name}
-use Rattle.marshal_grammar.specs.declared.refusal.Refusal.{Refusal}
 use Rattle.marshal_grammar.specs.declared.refusal.Why.TheVariants as why
 use Rattle.marshal_grammar.specs.Contexts.{Context}
 use Rattle.marshal_grammar.specs.Grammar.{Grammar, must, ◌>>=◌, ◌>>◌}
@@ -14,37 +13,16 @@ use Rattle.marshal_grammar.specs.Values.{values, pairs, fields}
 use Rattle.marshal_read.specs.declared.error.ReadError.{ReadError}
 use Rattle.marshal_read.specs.State.{State}
 use Rattle.marshal_read.specs.Fails.{Fails, reading}
-use Rattle.marshal_read.specs.Arena.{tree_in, trees_at, pairs_at, fields_at, keys_of, key_in, Below, PairsBelow, FieldsBelow, Grows}
-use Rattle.marshal_read.proofs.Steps.{then_ok, then_err, fails_as}
-
--- the values of earlier indices stay
-pub trees_at-grown : (a b : List Tree) (is : List ℕ) → Grows a b → Below (length a) is → trees_at b is ≡ trees_at a is
-trees_at-grown a b [] g h = refl
-trees_at-grown a b (i ∷ is) g h = rw (g.same i h.0, trees_at-grown a b is g h.1) refl
-
-pub pairs_at-grown : (a b : List Tree) (ps : List (ℕ × ℕ)) → Grows a b → PairsBelow (length a) ps → pairs_at b ps ≡ pairs_at a ps
-pairs_at-grown a b [] g h = refl
-pairs_at-grown a b (p ∷ ps) g h = rw (g.same p.0 h.0.0, g.same p.1 h.0.1, pairs_at-grown a b ps g h.1) refl
-
-pub fields_at-grown : (a b : List Tree) (fs : List (List ℕ × ℕ)) → Grows a b → FieldsBelow (length a) fs → fields_at b fs ≡ fields_at a fs
-fields_at-grown a b [] g h = refl
-fields_at-grown a b (f ∷ fs) g h = rw (g.same f.1 h.0, fields_at-grown a b fs g h.1) refl
-
-pub Below-more : (n m : ℕ) (is : List ℕ) (i : ℕ) → n ≤ m → Below n is → i < m → Below m (is ++ (i ∷ []))
-Below-more n m [] i le h lt = (lt, tt)
-Below-more n m (j ∷ is) i le h lt = (omega (arith, h.0), Below-more n m is i le h.1 lt)
-
-pub PairsBelow-more : (n m : ℕ) (ps : List (ℕ × ℕ)) (i j : ℕ) → n ≤ m → PairsBelow n ps → i < m → j < m → PairsBelow m (ps ++ ((i, j) ∷ []))
-PairsBelow-more n m [] i j le h lt lu = ((lt, lu), tt)
-PairsBelow-more n m (p ∷ ps) i j le h lt lu = ((omega (arith, h.0.0), omega (arith, h.0.1)), PairsBelow-more n m ps i j le h.1 lt lu)
-
-pub FieldsBelow-more : (n m : ℕ) (fs : List (List ℕ × ℕ)) (s : List ℕ) (i : ℕ) → n ≤ m → FieldsBelow n fs → i < m → FieldsBelow m (fs ++ ((s, i) ∷ []))
-FieldsBelow-more n m [] s i le h lt = (lt, tt)
-FieldsBelow-more n m (f ∷ fs) s i le h lt = (omega (arith, h.0), FieldsBelow-more n m fs s i le h.1 lt)
+use Rattle.marshal_read.specs.Making.{keys_of, key_in, names_of, name_in}
+use Rattle.marshal_read.proofs.Followed.{then_ok, then_err, fails_as}
 
 pub key_in-keys_of : (k : Tree) (ps : List (Tree × Tree)) → key_in k (keys_of ps) ≡ has_key k ps
 key_in-keys_of k [] = refl
 key_in-keys_of k (p ∷ ps) = ap (λ (b : Bool). same p.0 k || b) (key_in-keys_of k ps)
+
+pub name_in-names_of : (n : List ℕ) (fs : List (List ℕ × Tree)) → name_in n (names_of fs) ≡ has_name n fs
+name_in-names_of n [] = refl
+name_in-names_of n (f ∷ fs) = ap (λ (b : Bool). bytes_eq f.0 n || b) (name_in-names_of n fs)
 
 -- values that were read before others
 abbrev pub with_front : List Tree → Read (List Tree) → Read (List Tree)

@@ -1,9 +1,9 @@
 -- A symbol in rounds.
-use Rattle.std.proofs.Common.{◌≡◌, ℕ, zero, suc, ◌+◌, ◌-◌, ◌<◌, List, [], ◌∷◌, ◌++◌, length, Option, Some, None, Ok, Err, refl, sym, ap, ◌∙◌, arith, inl, inr}
+use Rattle.std.proofs.Common.{◌≡◌, ℕ, suc, ◌+◌, ◌-◌, ◌<◌, List, [], ◌∷◌, Ok, Err, refl, ap, arith, inl, inr}
 use Rattle.marshal_grammar.specs.declared.refusal.Refusal.{Refusal}
 use Rattle.marshal_grammar.specs.declared.refusal.Why.TheVariants as why
 use Rattle.marshal_grammar.specs.Contexts.{Context}
-use Rattle.marshal_grammar.specs.Reading.{Read, read, in_rounds}
+use Rattle.marshal_grammar.specs.Reading.{read, in_rounds}
 use Rattle.marshal_grammar.specs.Symbols.{Waiting, symbol_round}
 use Rattle.marshal_read.specs.declared.error.ReadError.{ReadError}
 use Rattle.marshal_read.specs.declared.error.ReadError.TheVariants as error

@@ -6,7 +6,7 @@ use Rattle.drb_tree.specs.declared.Tree.{Tree}
 use Rattle.marshal_grammar.specs.declared.refusal.Why.{Why}
 use Rattle.marshal_grammar.specs.declared.refusal.Refusal.{Refusal}
 use Rattle.marshal_grammar.specs.Contexts.{Context, opening}
-use Rattle.marshal_grammar.specs.Reading.{Read, read}
+use Rattle.marshal_grammar.specs.Reading.{read}
 use Rattle.marshal_grammar.specs.Dumps.{dump, dump_with, reference, Dump, Refuses, dump_of}
 use Rattle.marshal_grammar.proofs.Results.{ok_is, err_is}
 use Rattle.marshal_grammar.proofs.Answering.{any_rest, reads_dumps, reads_refusals}
@@ -80,7 +80,7 @@ so_every_refusal bs (Ok x) h w at k =
 
 -- the reader at the front
 abbrev pub start : List ℕ → State
-start bs = record { rest = bs; seen = opening; trees = [] }
+start bs = record { rest = bs; seen = opening; steps = [] }
 
 read_whole : (bs : List ℕ) (s : State) → s ≡ start bs → dump_of bs ≡ reading (dump_with (reference_in false)) s
 read_whole bs s h = dump_is bs ∙ sym (ap (λ (z : State). reading (dump_with reference) z) h)

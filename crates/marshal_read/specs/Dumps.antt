@@ -1,7 +1,6 @@
 -- What an answer of `read_dump` says.
-use Rattle.std.specs.Prelude.{ℕ, ◌≡◌, ◌≤◌, List, take, length, ◌⊎◌, Result, Ok, Err}
+use Rattle.std.specs.Prelude.{ℕ, ◌≤◌, List, take, length}
 use Rattle.drb_tree.specs.declared.Tree.{Tree}
-use Rattle.marshal_grammar.specs.declared.refusal.Why.{Why}
 use Rattle.marshal_grammar.specs.Dumps.{Dump}
 
 -- the first n bytes are a dump of the value

@@ -1,5 +1,5 @@
 pub mod State
-pub mod Arena
+pub mod Making
 pub mod View
 pub mod Fails
 pub mod Rounds

@@ -1,14 +1,17 @@
 -- Where a value stands: in a dump, or in the inner dump of a remote object.
-use Rattle.std.specs.Prelude.{ℕ, Bool, true, false, List, Option, Some, None, Ok, Err}
+use Rattle.std.specs.Prelude.{ℕ, ◌≡◌, Bool, true, false, List, Option, Some, None, Ok, Err}
 use Rattle.std.proofs.Common.{inl, inr}
 use Rattle.drb_tree.specs.declared.Remote.{Remote}
 use Rattle.drb_tree.specs.declared.Tree.{Tree}
+use Rattle.drb_tree.specs.Kept.{remote_class}
 use Rattle.marshal_grammar.specs.declared.refusal.Why.TheVariants as why
 use Rattle.marshal_grammar.specs.Grammar.{Grammar, refuses}
 use Rattle.marshal_grammar.specs.Reading.{Read}
 use Rattle.marshal_grammar.specs.Trees.{object, structure}
 use Rattle.marshal_grammar.specs.Values as V
 use Rattle.marshal_grammar.specs.Dumps.{reference}
+use Rattle.marshal_read.specs.declared.steps.Step.{Step}
+use Rattle.marshal_read.specs.declared.steps.Step.TheVariants as S
 use Rattle.marshal_read.specs.declared.references.Held.{Held}
 use Rattle.marshal_read.specs.declared.references.Held.TheVariants as H
 
@@ -30,6 +33,16 @@ given (Err e) = None
 abbrev pub held_is : Held → V.Held
 held_is (H.Remote r) = inl r
 held_is (H.Other c bs) = inr (c, bs)
+
+-- the step that makes its value, with n variables
+abbrev pub held_step : Held → ℕ → Step
+held_step (H.Remote r) n = S.Remote r n
+held_step (H.Other c bs) n = S.Dumped (record { class = c; bytes = bs }) n
+
+-- the class of anything else is not that of remote objects
+abbrev pub Foreign : Held → Type 0
+Foreign (H.Remote r) = Unit {0}
+Foreign (H.Other c bs) = c ≡ remote_class → ⊥
 
 -- the value of a class and fields: a struct, or an object
 abbrev pub fields_form : Bool → List ℕ → List (List ℕ × Tree) → Tree

@@ -1,10 +1,10 @@
 -- What a reader is between two steps.
 use Rattle.std.specs.Prelude.{ℕ, List}
-use Rattle.drb_tree.specs.declared.Tree.{Tree}
 use Rattle.marshal_grammar.specs.Contexts.{Context}
+use Rattle.marshal_read.specs.declared.steps.Step.{Step}
 
--- The bytes that are left, what the bytes before them leave, and the values that have been read, in the order in which they ended.
+-- The bytes that are left, what the bytes before them leave, and the steps that make what was read.
 pub record State : Type 0 where
   pub rest : List ℕ
   pub seen : Context
-  pub trees : List Tree
+  pub steps : List Step

@@ -1,173 +1,261 @@
-//! The value of an entry, built with copies of all that the entry names.
+//! The value that steps make.
 
-ghost use Rattle.std.specs.Prelude.{◌≡◌, ℕ, List, [], ◌∷◌, ◌++◌, length, map, option_map, Option, Some, None, IfOk, OnOk};
-ghost use Rattle.drb_value.specs.View.{view_of};
-ghost use Rattle.marshal_read.specs.Arena.{tree_in, planted, trees_at, pairs_at, fields_at};
-ghost use Rattle.marshal_read.specs.View.{layer, trees_of};
+ghost use Rattle.std.specs.Prelude.{◌≡◌, ℕ, ◌≤◌, List, [], ◌∷◌, ◌++◌, length, Some, None, IfOk, OnOk, IsTrue};
+ghost use Rattle.drb_tree.specs.Kept.{keys_distinct, names_distinct, remote_class};
+ghost use Rattle.marshal_grammar.specs.Trees.{hash, object, structure, dumped, wrapped};
+ghost use Rattle.marshal_read.specs.Making.{Made, nothing, front, back, last, put, after, Fits, AllFit, value_of};
 
-use crate::arena::Entry;
-use crate::reader::Reader;
-use drb_value::{Boxed, Dumped, FieldList, Fields, Items, Name, Node, Pairs, Value, Wrapped};
+use crate::span::Span;
+use crate::steps::Step;
+use drb_value::{Boxed, Dumped, FieldList, Items, Name, Pairs, Remote, Text, Value};
 use std::alloc::{AllocError, Global};
+use std::marker::Model;
 
-impl<'a> Reader<'a> {
-    /// The value of an entry.
-    pub fn build(&self, alloc: Global, entry: usize) -> Result<Value, AllocError>
-        ensures { IfOk result (λ v. v ≡ tree_in self.now.trees entry) }
-    {
-        value(alloc, self.entries.as_slice(), entry)
-    }
+/// What was made, and waits for what it is a part of.
+#[derive(Drop)]
+struct Parts {
+    values: Vec<Value>,
+    pairs: Vec<(Value, Value)>,
+    fields: Vec<(Name, Value)>,
 }
 
-/// The value of the entry at `index`; nil where there is none.
-#[cycle(build)]
-fn value(alloc: Global, entries: &[Entry], index: usize) -> Result<Value, AllocError>
-    ensures { IfOk result (λ v. v ≡ tree_in (trees_of entries.now) index) }
-{
-    if index >= entries.len() {
-        return Ok(Value { node: Node::Nil });
-    }
-    Ok(Value {
-        node: node(alloc, &entries[..index], &entries[index])?,
-    })
+impl Model for Parts {
+    ghost use Rattle.marshal_read.specs.Making.{Made};
+    ghost use Rattle.drb_tree.specs.contracts.Tree as e;
+    ghost use Rattle.std.specs.Coded.{codes};
+
+    ghost Value = { Made };
+
+    ghost coded = { Prim.hlevel (codes, e.the_row.coded) };
+
+    ghost view = { λ a. record { values = a.values.items; pairs = a.pairs.items; fields = a.fields.items } };
 }
 
-/// What an entry is, whose parts are among the entries before it.
-#[cycle(build)]
-fn node(alloc: Global, before: &[Entry], entry: &Entry) -> Result<Node, AllocError>
-    ensures { IfOk result (λ n. view_of n ≡ planted (trees_of before.now) (layer entry.now)) }
+/// The value that these steps make.
+pub fn built(alloc: Global, steps: &[Step]) -> Result<Value, AllocError>
+    requires { AllFit nothing steps.now }
+    ensures { IfOk result (λ v. v ≡ value_of steps.now) }
 {
-    match entry {
-        Entry::Nil => Ok(Node::Nil),
-        Entry::Bool(truth) => Ok(Node::Bool(*truth)),
-        Entry::Int(number) => Ok(Node::Int(*number)),
-        Entry::Sym(bytes) => Ok(Node::Sym(name(alloc, bytes.as_slice())?)),
-        Entry::Text(text) => Ok(Node::Text(text.copy(alloc)?)),
-        Entry::List(parts) => Ok(Node::List(values(alloc, before, parts.as_slice())?)),
-        Entry::Hash(parts, default) => {
-            let pairs = pairs(alloc, before, parts.as_slice())?;
-            Ok(Node::Hash(with_default(alloc, before, pairs, default)?))
-        }
-        Entry::Class(bytes) => Ok(Node::Class(name(alloc, bytes.as_slice())?)),
-        Entry::Module(bytes) => Ok(Node::Module(name(alloc, bytes.as_slice())?)),
-        Entry::Object(class, parts) => {
-            let class = name(alloc, class.as_slice())?;
-            let fields = fields(alloc, before, parts.as_slice())?;
-            Ok(Node::Object(Fields { class, fields }))
-        }
-        Entry::Struct(class, parts) => {
-            let class = name(alloc, class.as_slice())?;
-            let fields = fields(alloc, before, parts.as_slice())?;
-            Ok(Node::Struct(Fields { class, fields }))
-        }
-        Entry::Dumped(class, bytes, parts) => {
-            let class = name(alloc, class.as_slice())?;
-            let vars = fields(alloc, before, parts.as_slice())?;
-            Ok(Node::Dumped(dumped(alloc, class, bytes.as_slice(), vars)?))
-        }
-        Entry::Wrapped(class, part) => {
-            let class = name(alloc, class.as_slice())?;
-            let inner = Boxed::new(alloc, value(alloc, before, *part)?)?;
-            Ok(Node::Wrapped(Wrapped { class, inner }))
-        }
-        Entry::Remote(remote) => Ok(Node::Remote(remote.copy(alloc)?)),
+    let mut parts = Parts::new(alloc);
+    for step in steps {
+        parts.take(alloc, step)?;
     }
+    Ok(parts.value())
 }
 
-#[cycle(build)]
-fn values(alloc: Global, before: &[Entry], parts: &[usize]) -> Result<Items<Value>, AllocError>
-    ensures { IfOk result (λ vs. vs ≡ trees_at (trees_of before.now) parts.now) }
+/// The last `n` of these, which leave them.
+fn split<T>(items: &mut Vec<T>, n: usize) -> Result<Items<T>, AllocError>
+    requires { n ≤ length items.old.items }
+    ensures rest { OnOk result (items.new.items ≡ front n items.old.items) }
+    ensures these { IfOk result (λ them. them ≡ back n items.old.items) }
 {
-    let mut found = Items::new(alloc);
-    for part in parts {
-        found.push(value(alloc, before, *part)?)?;
-    }
-    Ok(found)
-}
-
-#[cycle(build)]
-fn pairs(alloc: Global, before: &[Entry], parts: &[(usize, usize)]) -> Result<Pairs, AllocError>
-    ensures { IfOk result (λ ps. ps ≡ (pairs_at (trees_of before.now) parts.now, None)) }
-{
-    let mut found = Pairs::new(alloc);
-    for part in parts {
-        let key = value(alloc, before, part.0)?;
-        let held = value(alloc, before, part.1)?;
-        push_pair(&mut found, key, held)?;
-    }
-    Ok(found)
-}
-
-#[cycle(build)]
-fn with_default(
-    alloc: Global,
-    before: &[Entry],
-    pairs: Pairs,
-    default: &Option<usize>,
-) -> Result<Pairs, AllocError>
-    requires { pairs.1 ≡ None }
-    ensures { IfOk result (λ ps. ps ≡ (pairs.0, option_map (tree_in (trees_of before.now)) default.now)) }
-{
-    match default {
-        None => Ok(pairs),
-        Some(part) => pairs.with_default(alloc, value(alloc, before, *part)?),
-    }
-}
-
-#[cycle(build)]
-fn fields(
-    alloc: Global,
-    before: &[Entry],
-    parts: &[(Items<u8>, usize)],
-) -> Result<FieldList, AllocError>
-    ensures { IfOk result (λ fs. fs ≡ fields_at (trees_of before.now) parts.now) }
-{
-    let mut found = FieldList::new(alloc);
-    for part in parts {
-        let name = name(alloc, part.0.as_slice())?;
-        let held = value(alloc, before, part.1)?;
-        push_field(&mut found, name, held)?;
-    }
-    Ok(found)
+    let at = items.len() - n;
+    Ok(Items::from_vec(items.split_off(at)?))
 }
 
 /// A name of these bytes.
-fn name(alloc: Global, bytes: &[u8]) -> Result<Name, AllocError>
+fn name(alloc: Global, bytes: &Span) -> Result<Name, AllocError>
     ensures { IfOk result (λ n. n ≡ bytes.now) }
 {
-    match Name::of(alloc, bytes) {
+    match Name::of(alloc, bytes.as_slice()) {
         Ok(name) => Ok(name),
         Err(_) => Err(AllocError),
     }
 }
 
-/// Adds a pair at the end.
-fn push_pair(pairs: &mut Pairs, key: Value, value: Value) -> Result<(), AllocError>
-    ensures { OnOk result (pairs.new ≡ (pairs.old.0 ++ (key, value) ∷ [], pairs.old.1)) }
-{
-    match pairs.push(key, value) {
-        Ok(()) => Ok(()),
-        Err(_) => Err(AllocError),
+impl Parts {
+    fn new(alloc: Global) -> Parts
+        ensures { result ≡ nothing }
+    {
+        Parts {
+            values: Vec::new(alloc),
+            pairs: Vec::new(alloc),
+            fields: Vec::new(alloc),
+        }
     }
-}
 
-/// Adds a field at the end.
-fn push_field(fields: &mut FieldList, name: Name, value: Value) -> Result<(), AllocError>
-    ensures { OnOk result (fields.new ≡ fields.old ++ (name, value) ∷ []) }
-{
-    match fields.push(name, value) {
-        Ok(()) => Ok(()),
-        Err(_) => Err(AllocError),
+    /// The last value.
+    fn value(self) -> Value
+        ensures { result ≡ last self.values }
+    {
+        let Parts {
+            mut values,
+            pairs,
+            fields,
+        } = self;
+        drop(pairs);
+        drop(fields);
+        let found = values.pop();
+        drop(values);
+        match found {
+            Some(value) => value,
+            None => Value::nil(),
+        }
     }
-}
 
-/// What a class dumped of itself as bytes.
-fn dumped(alloc: Global, class: Name, bytes: &[u8], vars: FieldList) -> Result<Dumped, AllocError>
-    ensures { IfOk result (λ d. d ≡ (class, bytes.now, vars)) }
-{
-    if class.is_remote_class() {
-        return Err(AllocError);
+    /// Takes a step.
+    fn take(&mut self, alloc: Global, step: &Step) -> Result<(), AllocError>
+        requires { Fits self.old step.now }
+        ensures { OnOk result (self.new ≡ after self.old step.now) }
+    {
+        match step {
+            Step::Nil => self.put(Value::nil()),
+            Step::Bool(truth) => self.put(Value::boolean(*truth)),
+            Step::Int(number) => self.put(Value::int(*number)),
+            Step::Sym(bytes) => self.put(Value::sym(name(alloc, bytes)?)),
+            Step::Text(bytes, code) => self.put(Value::text(Text::of(
+                alloc,
+                bytes.as_slice(),
+                *code,
+            )?)),
+            Step::Class(bytes) => self.put(Value::class(name(alloc, bytes)?)),
+            Step::Module(bytes) => self.put(Value::module(name(alloc, bytes)?)),
+            Step::List(n) => self.list(*n),
+            Step::Pair => self.pair(),
+            Step::Field(bytes) => self.field(name(alloc, bytes)?),
+            Step::Hash(n) => self.hash(*n),
+            Step::HashWithDefault(n) => self.hash_with_default(alloc, *n),
+            Step::Object(class, n) => self.object(name(alloc, class)?, *n),
+            Step::Struct(class, n) => self.structure(name(alloc, class)?, *n),
+            Step::Dumped(raw, n) => {
+                let raw = raw.get();
+                self.dumped(alloc, name(alloc, &raw.class)?, &raw.bytes, *n)
+            }
+            Step::Remote(remote, n) => self.remote(remote.get().copy(alloc)?, *n),
+            Step::Wrapped(class) => self.wrapped(alloc, name(alloc, class)?),
+        }
     }
-    let bytes = Items::from_slice(alloc, bytes)?;
-    Ok(Dumped::of(class, bytes, vars))
+
+    fn put(&mut self, value: Value) -> Result<(), AllocError>
+        ensures { OnOk result (self.new ≡ put value self.old) }
+    {
+        self.values.push(value)?;
+        Ok(())
+    }
+
+    /// The last value, which leaves the others.
+    fn last(&mut self) -> Value
+        requires { 1 ≤ length self.old.values }
+        ensures value { result ≡ last self.old.values }
+        ensures rest { self.new ≡ record self.old { values = front 1 self.old.values } }
+    {
+        match self.values.pop() {
+            Some(value) => value,
+            None => Value::nil(),
+        }
+    }
+
+    fn list(&mut self, n: usize) -> Result<(), AllocError>
+        requires { n ≤ length self.old.values }
+        ensures { OnOk result (self.new ≡ after self.old (Step.List n)) }
+    {
+        let items = split(&mut self.values, n)?;
+        self.put(Value::list(items))
+    }
+
+    fn pair(&mut self) -> Result<(), AllocError>
+        requires { 2 ≤ length self.old.values }
+        ensures { OnOk result (self.new ≡ after self.old Step.Pair) }
+    {
+        let value = self.last();
+        let key = self.last();
+        self.pairs.push((key, value))?;
+        Ok(())
+    }
+
+    fn field(&mut self, name: Name) -> Result<(), AllocError>
+        requires { 1 ≤ length self.old.values }
+        ensures { OnOk result (self.new ≡ after self.old (Step.Field name)) }
+    {
+        let value = self.last();
+        self.fields.push((name, value))?;
+        Ok(())
+    }
+
+    /// The last `n` pairs, which leave the others, and this default.
+    fn pairs(&mut self, n: usize) -> Result<Pairs, AllocError>
+        requires { (n ≤ length self.old.pairs) × IsTrue (keys_distinct (back n self.old.pairs)) }
+        ensures pairs { IfOk result (λ ps. ps ≡ (back n self.old.pairs, None)) }
+        ensures rest { OnOk result (self.new ≡ record self.old { pairs = front n self.old.pairs }) }
+    {
+        let pairs = split(&mut self.pairs, n)?;
+        Ok(Pairs {
+            pairs,
+            default: None,
+        })
+    }
+
+    fn hash(&mut self, n: usize) -> Result<(), AllocError>
+        requires { (n ≤ length self.old.pairs) × IsTrue (keys_distinct (back n self.old.pairs)) }
+        ensures { OnOk result (self.new ≡ after self.old (Step.Hash n)) }
+    {
+        let pairs = self.pairs(n)?;
+        self.put(Value::hash(pairs))
+    }
+
+    fn hash_with_default(&mut self, alloc: Global, n: usize) -> Result<(), AllocError>
+        requires { (1 ≤ length self.old.values) × (n ≤ length self.old.pairs) × IsTrue (keys_distinct (back n self.old.pairs)) }
+        ensures { OnOk result (self.new ≡ after self.old (Step.HashWithDefault n)) }
+    {
+        let pairs = self.pairs(n)?;
+        let default = self.last();
+        self.put(Value::hash(pairs.with_default(alloc, default)?))
+    }
+
+    /// The last `n` fields, which leave the others.
+    fn fields(&mut self, n: usize) -> Result<FieldList, AllocError>
+        requires { (n ≤ length self.old.fields) × IsTrue (names_distinct (back n self.old.fields)) }
+        ensures fields { IfOk result (λ fs. fs ≡ back n self.old.fields) }
+        ensures rest { OnOk result (self.new ≡ record self.old { fields = front n self.old.fields }) }
+    {
+        let list = split(&mut self.fields, n)?;
+        Ok(FieldList { list })
+    }
+
+    fn object(&mut self, class: Name, n: usize) -> Result<(), AllocError>
+        requires { (n ≤ length self.old.fields) × IsTrue (names_distinct (back n self.old.fields)) }
+        ensures { OnOk result (self.new ≡ after self.old (Step.Object class n)) }
+    {
+        let fields = self.fields(n)?;
+        self.put(Value::object(class, fields))
+    }
+
+    fn structure(&mut self, class: Name, n: usize) -> Result<(), AllocError>
+        requires { (n ≤ length self.old.fields) × IsTrue (names_distinct (back n self.old.fields)) }
+        ensures { OnOk result (self.new ≡ after self.old (Step.Struct class n)) }
+    {
+        let fields = self.fields(n)?;
+        self.put(Value::structure(class, fields))
+    }
+
+    fn dumped(
+        &mut self,
+        alloc: Global,
+        class: Name,
+        bytes: &Span,
+        n: usize,
+    ) -> Result<(), AllocError>
+        requires { (n ≤ length self.old.fields) × (class ≡ remote_class → ⊥) × IsTrue (names_distinct (back n self.old.fields)) }
+        ensures { OnOk result (self.new ≡ after self.old (Step.Dumped (record { class = class; bytes = bytes.now }) n)) }
+    {
+        let fields = self.fields(n)?;
+        let bytes = Items::from_slice(alloc, bytes.as_slice())?;
+        self.put(Value::dumped(Dumped::of(class, bytes, fields)))
+    }
+
+    fn remote(&mut self, remote: Remote, n: usize) -> Result<(), AllocError>
+        requires { n ≤ length self.old.fields }
+        ensures { OnOk result (self.new ≡ after self.old (Step.Remote remote n)) }
+    {
+        drop(split(&mut self.fields, n)?);
+        self.put(Value::remote(remote))
+    }
+
+    fn wrapped(&mut self, alloc: Global, class: Name) -> Result<(), AllocError>
+        requires { 1 ≤ length self.old.values }
+        ensures { OnOk result (self.new ≡ after self.old (Step.Wrapped class)) }
+    {
+        let inner = self.last();
+        self.put(Value::wrapped(alloc, class, inner)?)
+    }
 }

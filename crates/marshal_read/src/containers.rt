@@ -7,13 +7,14 @@ ghost use Rattle.marshal_grammar.specs.Reading.{read};
 ghost use Rattle.marshal_grammar.specs.Dumps.{dump_with};
 ghost use Rattle.marshal_grammar.specs.Values.{body, list_value, hash_value, default_hash_value, fields_value, wrapped_value, marked_value, marked_dumped, dumped_value, held};
 ghost use Rattle.marshal_read.specs.Fails.{Fails, reading};
-ghost use Rattle.marshal_read.specs.Arena.{tree_in, pairs_at, PairsBelow, Stands};
-ghost use Rattle.marshal_read.specs.Scopes.{reference_in, part_in, given, held_is, fields_form};
+ghost use Rattle.marshal_read.specs.Making.{added, AddsOne};
+ghost use Rattle.marshal_read.specs.Scopes.{reference_in, part_in, given, held_is, Foreign, fields_form};
 
-use crate::arena::Entry;
 use crate::error::{ReadError, refuse};
 use crate::reader::Reader;
 use crate::references::{Held, held_nodes};
+use crate::span::Span;
+use crate::steps::Step;
 use drb_tree::Remote;
 use marshal_grammar::kind::{Kind, kind_of};
 use marshal_grammar::refusal::Why;
@@ -23,10 +24,10 @@ use std::alloc::{AllocError, Global};
 impl<'a> Reader<'a> {
     /// A value, where so many levels are left, itself among them.
     #[cycle(read)]
-    pub fn value(&mut self, alloc: Global, nested: bool, room: usize) -> Result<usize, ReadError>
+    pub fn value(&mut self, alloc: Global, nested: bool, room: usize) -> Result<(), ReadError>
         requires { room ≤ 128 }
-        ensures ok { IfOk result (λ i. reading (part_in nested room) self.old ≡ Ok (tree_in self.new.trees i, self.new.seen, self.new.rest)) }
-        ensures stands { IfOk result (λ i. Stands i self.old.trees self.new.trees) }
+        ensures ok { OnOk result (reading (part_in nested room) self.old ≡ Ok (added self.old.steps self.new.steps, self.new.seen, self.new.rest)) }
+        ensures adds { OnOk result (AddsOne self.old.steps self.new.steps) }
         ensures err { IfErr result (λ e. Fails e (reading (part_in nested room) self.old)) }
     {
         let at = self.at();
@@ -50,27 +51,27 @@ impl<'a> Reader<'a> {
         room: usize,
         at: usize,
         kind: Kind,
-    ) -> Result<usize, ReadError>
+    ) -> Result<(), ReadError>
         requires { room < 128 }
-        ensures ok { IfOk result (λ i. reading (body (reference_in nested) (part_in nested room) (suc room) kind at) self.old ≡ Ok (tree_in self.new.trees i, self.new.seen, self.new.rest)) }
-        ensures stands { IfOk result (λ i. Stands i self.old.trees self.new.trees) }
+        ensures ok { OnOk result (reading (body (reference_in nested) (part_in nested room) (suc room) kind at) self.old ≡ Ok (added self.old.steps self.new.steps, self.new.seen, self.new.rest)) }
+        ensures adds { OnOk result (AddsOne self.old.steps self.new.steps) }
         ensures err { IfErr result (λ e. Fails e (reading (body (reference_in nested) (part_in nested room) (suc room) kind at) self.old)) }
     {
         match kind {
-            Kind::Nil => self.simple(at, Entry::Nil),
-            Kind::True => self.simple(at, Entry::Bool(true)),
-            Kind::False => self.simple(at, Entry::Bool(false)),
+            Kind::Nil => self.simple(at, Step::Nil),
+            Kind::True => self.simple(at, Step::Bool(true)),
+            Kind::False => self.simple(at, Step::Bool(false)),
             Kind::Int => self.small_int(at),
             Kind::Big => self.big_int(at),
-            Kind::Symbol => self.plain_symbol_value(alloc, at),
-            Kind::SymbolLink => self.linked_symbol_value(alloc, at),
+            Kind::Symbol => self.plain_symbol_value(at),
+            Kind::SymbolLink => self.linked_symbol_value(at),
             Kind::Marked => self.marked_value(alloc, nested, room, at),
-            Kind::Text => self.plain_text(alloc, at),
+            Kind::Text => self.plain_text(at),
             Kind::List => self.list_value(alloc, nested, room, at),
             Kind::Hash => self.hash_value(alloc, nested, room, at),
             Kind::HashWithDefault => self.default_hash_value(alloc, nested, room, at),
-            Kind::Class => self.class(alloc, at),
-            Kind::Module => self.module(alloc, at),
+            Kind::Class => self.class(at),
+            Kind::Module => self.module(at),
             Kind::Object => self.fields_value(alloc, nested, room, at, false),
             Kind::Struct => self.fields_value(alloc, nested, room, at, true),
             Kind::Dumped => self.dumped_value(alloc, nested, at),
@@ -87,17 +88,17 @@ impl<'a> Reader<'a> {
         nested: bool,
         room: usize,
         at: usize,
-    ) -> Result<usize, ReadError>
+    ) -> Result<(), ReadError>
         requires { room < 128 }
-        ensures ok { IfOk result (λ i. reading (list_value (part_in nested room) at) self.old ≡ Ok (tree_in self.new.trees i, self.new.seen, self.new.rest)) }
-        ensures stands { IfOk result (λ i. Stands i self.old.trees self.new.trees) }
+        ensures ok { OnOk result (reading (list_value (part_in nested room) at) self.old ≡ Ok (added self.old.steps self.new.steps, self.new.seen, self.new.rest)) }
+        ensures adds { OnOk result (AddsOne self.old.steps self.new.steps) }
         ensures err { IfErr result (λ e. Fails e (reading (list_value (part_in nested room) at) self.old)) }
     {
         let n = self.count()?;
         self.count_nodes(at, 1)?;
-        let number = self.begin_object()?;
-        let parts = self.values(alloc, nested, room, n)?;
-        Ok(self.end(number, Entry::List(parts))?)
+        let begun = self.begin_object()?;
+        self.values(alloc, nested, room, n)?;
+        Ok(self.end(begun, Step::List(n as usize))?)
     }
 
     /// After `{`: a long, and so many pairs.
@@ -108,17 +109,17 @@ impl<'a> Reader<'a> {
         nested: bool,
         room: usize,
         at: usize,
-    ) -> Result<usize, ReadError>
+    ) -> Result<(), ReadError>
         requires { room < 128 }
-        ensures ok { IfOk result (λ i. reading (hash_value (part_in nested room) at) self.old ≡ Ok (tree_in self.new.trees i, self.new.seen, self.new.rest)) }
-        ensures stands { IfOk result (λ i. Stands i self.old.trees self.new.trees) }
+        ensures ok { OnOk result (reading (hash_value (part_in nested room) at) self.old ≡ Ok (added self.old.steps self.new.steps, self.new.seen, self.new.rest)) }
+        ensures adds { OnOk result (AddsOne self.old.steps self.new.steps) }
         ensures err { IfErr result (λ e. Fails e (reading (hash_value (part_in nested room) at) self.old)) }
     {
         let n = self.pair_count()?;
         self.count_nodes(at, 1)?;
-        let number = self.begin_object()?;
-        let parts = self.pairs(alloc, nested, room, n)?;
-        Ok(self.end(number, Entry::Hash(parts, None))?)
+        let begun = self.begin_object()?;
+        self.pairs(alloc, nested, room, n)?;
+        Ok(self.end(begun, Step::Hash(n as usize))?)
     }
 
     /// After `}`: a long, so many pairs, and the default.
@@ -129,37 +130,18 @@ impl<'a> Reader<'a> {
         nested: bool,
         room: usize,
         at: usize,
-    ) -> Result<usize, ReadError>
+    ) -> Result<(), ReadError>
         requires { room < 128 }
-        ensures ok { IfOk result (λ i. reading (default_hash_value (part_in nested room) at) self.old ≡ Ok (tree_in self.new.trees i, self.new.seen, self.new.rest)) }
-        ensures stands { IfOk result (λ i. Stands i self.old.trees self.new.trees) }
+        ensures ok { OnOk result (reading (default_hash_value (part_in nested room) at) self.old ≡ Ok (added self.old.steps self.new.steps, self.new.seen, self.new.rest)) }
+        ensures adds { OnOk result (AddsOne self.old.steps self.new.steps) }
         ensures err { IfErr result (λ e. Fails e (reading (default_hash_value (part_in nested room) at) self.old)) }
     {
         let n = self.pair_count()?;
         self.count_nodes(at, 1)?;
-        let number = self.begin_object()?;
-        let parts = self.pairs(alloc, nested, room, n)?;
-        let default = self.default_value(alloc, nested, room, &parts)?;
-        Ok(self.end(number, Entry::Hash(parts, Some(default)))?)
-    }
-
-    /// The default of a hash, after these pairs, which stay as they are.
-    #[cycle(read)]
-    fn default_value(
-        &mut self,
-        alloc: Global,
-        nested: bool,
-        room: usize,
-        pairs: &Items<(usize, usize)>,
-    ) -> Result<usize, ReadError>
-        requires room { room ≤ 128 }
-        requires below { PairsBelow (length self.old.trees) pairs.now }
-        ensures ok { IfOk result (λ i. reading (part_in nested room) self.old ≡ Ok (tree_in self.new.trees i, self.new.seen, self.new.rest)) }
-        ensures same { OnOk result (pairs_at self.new.trees pairs.now ≡ pairs_at self.old.trees pairs.now) }
-        ensures stands { IfOk result (λ i. Stands i self.old.trees self.new.trees) }
-        ensures err { IfErr result (λ e. Fails e (reading (part_in nested room) self.old)) }
-    {
-        self.value(alloc, nested, room)
+        let begun = self.begin_object()?;
+        self.pairs(alloc, nested, room, n)?;
+        self.value(alloc, nested, room)?;
+        Ok(self.end(begun, Step::HashWithDefault(n as usize))?)
     }
 
     /// After `o` or `S`: a class symbol, a long, and so many fields.
@@ -171,21 +153,21 @@ impl<'a> Reader<'a> {
         room: usize,
         at: usize,
         is_struct: bool,
-    ) -> Result<usize, ReadError>
+    ) -> Result<(), ReadError>
         requires { room < 128 }
-        ensures ok { IfOk result (λ i. reading (fields_value (fields_form is_struct) (part_in nested room) at) self.old ≡ Ok (tree_in self.new.trees i, self.new.seen, self.new.rest)) }
-        ensures stands { IfOk result (λ i. Stands i self.old.trees self.new.trees) }
+        ensures ok { OnOk result (reading (fields_value (fields_form is_struct) (part_in nested room) at) self.old ≡ Ok (added self.old.steps self.new.steps, self.new.seen, self.new.rest)) }
+        ensures adds { OnOk result (AddsOne self.old.steps self.new.steps) }
         ensures err { IfErr result (λ e. Fails e (reading (fields_value (fields_form is_struct) (part_in nested room) at) self.old)) }
     {
-        let class = self.name(alloc)?;
+        let class = Span::of(self.name(alloc)?);
         let n = self.pair_count()?;
         self.count_nodes(at, 1)?;
-        let number = self.begin_object()?;
-        let parts = self.fields(alloc, nested, room, n)?;
+        let begun = self.begin_object()?;
+        self.fields(alloc, nested, room, n)?;
         if is_struct {
-            return Ok(self.end(number, Entry::Struct(class, parts))?);
+            return Ok(self.end(begun, Step::Struct(class, n as usize))?);
         }
-        Ok(self.end(number, Entry::Object(class, parts))?)
+        Ok(self.end(begun, Step::Object(class, n as usize))?)
     }
 
     /// After `U`: a class symbol and a value.
@@ -196,17 +178,17 @@ impl<'a> Reader<'a> {
         nested: bool,
         room: usize,
         at: usize,
-    ) -> Result<usize, ReadError>
+    ) -> Result<(), ReadError>
         requires { room < 128 }
-        ensures ok { IfOk result (λ i. reading (wrapped_value (part_in nested room) at) self.old ≡ Ok (tree_in self.new.trees i, self.new.seen, self.new.rest)) }
-        ensures stands { IfOk result (λ i. Stands i self.old.trees self.new.trees) }
+        ensures ok { OnOk result (reading (wrapped_value (part_in nested room) at) self.old ≡ Ok (added self.old.steps self.new.steps, self.new.seen, self.new.rest)) }
+        ensures adds { OnOk result (AddsOne self.old.steps self.new.steps) }
         ensures err { IfErr result (λ e. Fails e (reading (wrapped_value (part_in nested room) at) self.old)) }
     {
-        let class = self.name(alloc)?;
+        let class = Span::of(self.name(alloc)?);
         self.count_nodes(at, 1)?;
-        let number = self.begin_object()?;
-        let part = self.value(alloc, nested, room)?;
-        Ok(self.end(number, Entry::Wrapped(class, part))?)
+        let begun = self.begin_object()?;
+        self.value(alloc, nested, room)?;
+        Ok(self.end(begun, Step::Wrapped(class))?)
     }
 
     /// After `I`: a text, a symbol or a `u`.
@@ -217,10 +199,10 @@ impl<'a> Reader<'a> {
         nested: bool,
         room: usize,
         at: usize,
-    ) -> Result<usize, ReadError>
+    ) -> Result<(), ReadError>
         requires { room < 128 }
-        ensures ok { IfOk result (λ i. reading (marked_value (reference_in nested) (part_in nested room) at) self.old ≡ Ok (tree_in self.new.trees i, self.new.seen, self.new.rest)) }
-        ensures stands { IfOk result (λ i. Stands i self.old.trees self.new.trees) }
+        ensures ok { OnOk result (reading (marked_value (reference_in nested) (part_in nested room) at) self.old ≡ Ok (added self.old.steps self.new.steps, self.new.seen, self.new.rest)) }
+        ensures adds { OnOk result (AddsOne self.old.steps self.new.steps) }
         ensures err { IfErr result (λ e. Fails e (reading (marked_value (reference_in nested) (part_in nested room) at) self.old)) }
     {
         let place = self.at();
@@ -241,42 +223,45 @@ impl<'a> Reader<'a> {
         nested: bool,
         room: usize,
         at: usize,
-    ) -> Result<usize, ReadError>
+    ) -> Result<(), ReadError>
         requires { room < 128 }
-        ensures ok { IfOk result (λ i. reading (marked_dumped (reference_in nested) (part_in nested room) at) self.old ≡ Ok (tree_in self.new.trees i, self.new.seen, self.new.rest)) }
-        ensures stands { IfOk result (λ i. Stands i self.old.trees self.new.trees) }
+        ensures ok { OnOk result (reading (marked_dumped (reference_in nested) (part_in nested room) at) self.old ≡ Ok (added self.old.steps self.new.steps, self.new.seen, self.new.rest)) }
+        ensures adds { OnOk result (AddsOne self.old.steps self.new.steps) }
         ensures err { IfErr result (λ e. Fails e (reading (marked_dumped (reference_in nested) (part_in nested room) at) self.old)) }
     {
+        let start = self.count_steps();
         let held = self.held(alloc, nested, at)?;
-        let n = self.pair_count()?;
+        let variables = self.pair_count()?;
         self.count_nodes(at, held_nodes(&held))?;
-        let variables = self.fields(alloc, nested, room, n)?;
-        Ok(self.held_value(held, variables)?)
+        self.fields(alloc, nested, room, variables)?;
+        Ok(self.held_value(alloc, held, start, variables as usize)?)
     }
 
     /// After `u`: a class symbol, a length and bytes.
     #[cycle(read)]
-    fn dumped_value(&mut self, alloc: Global, nested: bool, at: usize) -> Result<usize, ReadError>
-        ensures ok { IfOk result (λ i. reading (dumped_value (reference_in nested) at) self.old ≡ Ok (tree_in self.new.trees i, self.new.seen, self.new.rest)) }
-        ensures stands { IfOk result (λ i. Stands i self.old.trees self.new.trees) }
+    fn dumped_value(&mut self, alloc: Global, nested: bool, at: usize) -> Result<(), ReadError>
+        ensures ok { OnOk result (reading (dumped_value (reference_in nested) at) self.old ≡ Ok (added self.old.steps self.new.steps, self.new.seen, self.new.rest)) }
+        ensures adds { OnOk result (AddsOne self.old.steps self.new.steps) }
         ensures err { IfErr result (λ e. Fails e (reading (dumped_value (reference_in nested) at) self.old)) }
     {
+        let start = self.count_steps();
         let held = self.held(alloc, nested, at)?;
         self.count_nodes(at, held_nodes(&held))?;
-        Ok(self.held_value(held, Items::new(alloc))?)
+        Ok(self.held_value(alloc, held, start, 0)?)
     }
 
     /// A class symbol, a length and bytes.
     #[cycle(read)]
-    fn held(&mut self, alloc: Global, nested: bool, at: usize) -> Result<Held, ReadError>
+    fn held(&mut self, alloc: Global, nested: bool, at: usize) -> Result<Held<'a>, ReadError>
+        ensures foreign { IfOk result (λ h. Foreign h) }
         ensures ok { IfOk result (λ h. reading (held (reference_in nested) at) self.old ≡ Ok (held_is h, self.new.seen, self.new.rest)) }
-        ensures kept { OnOk result (self.new.trees ≡ self.old.trees) }
+        ensures kept { OnOk result (self.new.steps ≡ self.old.steps) }
         ensures err { IfErr result (λ e. Fails e (reading (held (reference_in nested) at) self.old)) }
     {
         let class = self.name(alloc)?;
         let bytes = self.string()?;
-        if class.as_slice() != b"DRb::DRbObject".as_slice() {
-            return Ok(Held::Other(class, Items::from_slice(alloc, bytes)?));
+        if class != b"DRb::DRbObject".as_slice() {
+            return Ok(Held::Other(Span::of(class), Span::of(bytes)));
         }
         match Reader::remote_in(alloc, nested, bytes)? {
             None => Err(refuse(Why::BadReference, at)),
@@ -287,9 +272,9 @@ impl<'a> Reader<'a> {
     /// The version bytes and one value.
     #[cycle(read)]
     #[tactic(auto, unfolding(marshal_grammar::specs::Dumps::dump_with))]
-    pub fn dump_with(&mut self, alloc: Global, nested: bool) -> Result<usize, ReadError>
-        ensures ok { IfOk result (λ i. reading (dump_with (reference_in nested)) self.old ≡ Ok (tree_in self.new.trees i, self.new.seen, self.new.rest)) }
-        ensures stands { IfOk result (λ i. Stands i self.old.trees self.new.trees) }
+    pub fn dump_with(&mut self, alloc: Global, nested: bool) -> Result<(), ReadError>
+        ensures ok { OnOk result (reading (dump_with (reference_in nested)) self.old ≡ Ok (added self.old.steps self.new.steps, self.new.seen, self.new.rest)) }
+        ensures adds { OnOk result (AddsOne self.old.steps self.new.steps) }
         ensures err { IfErr result (λ e. Fails e (reading (dump_with (reference_in nested)) self.old)) }
     {
         self.version()?;
@@ -304,9 +289,9 @@ impl<'a> Reader<'a> {
         if nested {
             return Ok(None);
         }
-        let mut inner = Reader::new(alloc, bytes);
+        let mut inner = Reader::new(alloc, bytes)?;
         match inner.dump_with(alloc, true) {
-            Ok(index) => inner.remote(alloc, index),
+            Ok(()) => inner.remote(alloc),
             Err(ReadError::Memory) => Err(AllocError),
             Err(ReadError::Refused(_refusal)) => Ok(None),
         }

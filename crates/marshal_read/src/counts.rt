@@ -14,7 +14,7 @@ impl<'a> Reader<'a> {
     pub fn count(&mut self) -> Result<u64, ReadError>
         ensures ok { IfOk result (λ n. reading count self.old ≡ Ok (n, self.new.seen, self.new.rest)) }
         ensures small { IfOk result (λ n. n < 2 ^ 63) }
-        ensures kept { OnOk result (self.new.trees ≡ self.old.trees) }
+        ensures kept { OnOk result (self.new.steps ≡ self.old.steps) }
         ensures err { IfErr result (λ e. Fails e (reading count self.old)) }
     {
         let at = self.at();
@@ -28,7 +28,7 @@ impl<'a> Reader<'a> {
     /// A length and so many bytes.
     pub fn string(&mut self) -> Result<&'a [u8], ReadError>
         ensures ok { IfOk result (λ s. reading string self.old ≡ Ok (s.now, self.new.seen, self.new.rest)) }
-        ensures kept { OnOk result (self.new.trees ≡ self.old.trees) }
+        ensures kept { OnOk result (self.new.steps ≡ self.old.steps) }
         ensures err { IfErr result (λ e. Fails e (reading string self.old)) }
     {
         let n = self.count()?;
@@ -38,7 +38,7 @@ impl<'a> Reader<'a> {
     /// A count of pairs, fields or variables.
     pub fn pair_count(&mut self) -> Result<u64, ReadError>
         ensures ok { IfOk result (λ n. reading pair_count self.old ≡ Ok (n, self.new.seen, self.new.rest)) }
-        ensures kept { OnOk result (self.new.trees ≡ self.old.trees) }
+        ensures kept { OnOk result (self.new.steps ≡ self.old.steps) }
         ensures err { IfErr result (λ e. Fails e (reading pair_count self.old)) }
     {
         let at = self.at();

@@ -4,13 +4,13 @@
 //! value exactly where the bytes begin with a dump of it, and a refusal exactly where the grammar refuses them; only
 //! want of memory is free. It returns on all bytes, and takes no memory in advance of the bytes that ask for it.
 //!
-//! Values that have been read lie flat, in the order in which they ended; a value names its parts, and a link its
-//! object, by an index. The tree is built once, at the end. Read `arena.rt` and `reader.rt` for what a reader holds,
-//! `tables.rt` for how that changes, then `counts.rt`, `symbols.rt`, `values.rt`, `numbers.rt` and `links.rt` for what
+//! What has been read lies flat, as the steps that make it, in the order in which its parts ended; an object is the range
+//! of its steps, and a link to it takes them once more. A text or a name stays in the bytes of the input. The value is
+//! built once, at the end. Read `span.rt`, `steps.rt` and `reader.rt` for what a reader holds, `tables.rt` for how that
+//! changes, then `counts.rt`, `symbols.rt`, `values.rt`, `numbers.rt` and `links.rt` for what
 //! has no parts, `parts.rt`, `references.rt` and `containers.rt` for what has, and `build.rt` for the end.
 #![tactic(auto)]
 
-mod arena;
 mod build;
 mod containers;
 mod counts;
@@ -20,6 +20,8 @@ mod numbers;
 mod parts;
 mod reader;
 mod references;
+mod span;
+mod steps;
 mod symbols;
 mod tables;
 #[cfg(test)]
@@ -49,8 +51,8 @@ pub fn read_dump(alloc: Global, bytes: &[u8]) -> Result<(Value, usize), ReadErro
     ensures every_dump { (n : ℕ) (v : Tree) → DumpOf bytes.now v n → (result ≡ Ok (v, n)) ⊎ (result ≡ Err ReadError.Memory) }
     ensures every_refusal { (why : Why) (at : ℕ) → Refuses bytes.now why at → (result ≡ Err (ReadError.Refused (record { why = why; at = at }))) ⊎ (result ≡ Err ReadError.Memory) }
 {
-    let mut reader = Reader::new(alloc, bytes);
-    let index = reader.dump_with(alloc, false)?;
-    let value = reader.build(alloc, index)?;
+    let mut reader = Reader::new(alloc, bytes)?;
+    reader.dump_with(alloc, false)?;
+    let value = reader.built_since(alloc, 0)?;
     Ok((value, bytes.len() - reader.left()))
 }

@@ -4,18 +4,18 @@ ghost use Rattle.std.specs.Prelude.{◌≡◌, ℕ, ◌+◌, ◌*◌, ◌<◌, �
 ghost use Rattle.marshal_grammar.specs.Longs.{little};
 ghost use Rattle.marshal_grammar.specs.Values.{big_int, is_i128, signed};
 ghost use Rattle.marshal_read.specs.Fails.{Fails, reading};
-ghost use Rattle.marshal_read.specs.Arena.{tree_in, Stands};
+ghost use Rattle.marshal_read.specs.Making.{added, AddsOne};
 
-use crate::arena::Entry;
 use crate::error::{ReadError, refuse};
 use crate::reader::Reader;
+use crate::steps::Step;
 use marshal_grammar::refusal::Why;
 
 impl<'a> Reader<'a> {
     /// After `l`: a sign, a long n and 2n bytes.
-    pub fn big_int(&mut self, at: usize) -> Result<usize, ReadError>
-        ensures ok { IfOk result (λ i. reading (big_int at) self.old ≡ Ok (tree_in self.new.trees i, self.new.seen, self.new.rest)) }
-        ensures stands { IfOk result (λ i. Stands i self.old.trees self.new.trees) }
+    pub fn big_int(&mut self, at: usize) -> Result<(), ReadError>
+        ensures ok { OnOk result (reading (big_int at) self.old ≡ Ok (added self.old.steps self.new.steps, self.new.seen, self.new.rest)) }
+        ensures adds { OnOk result (AddsOne self.old.steps self.new.steps) }
         ensures err { IfErr result (λ e. Fails e (reading (big_int at) self.old)) }
     {
         let place = self.at();
@@ -29,7 +29,7 @@ impl<'a> Reader<'a> {
             return Err(refuse(Why::BigInteger, at));
         };
         self.count_nodes(at, 1)?;
-        Ok(self.whole(Entry::Int(number))?)
+        Ok(self.whole(Step::Int(number))?)
     }
 }
 

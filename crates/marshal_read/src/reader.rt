@@ -5,10 +5,11 @@ ghost use Rattle.marshal_grammar.specs.Grammar.{byte, bytes, long};
 ghost use Rattle.marshal_grammar.specs.Contexts.{opening, add_symbol, begin_object, add_object, finish_object};
 ghost use Rattle.marshal_grammar.specs.declared.refusal.Why.TheVariants as why;
 ghost use Rattle.marshal_read.specs.Fails.{Fails, reading};
-ghost use Rattle.marshal_read.specs.Arena.{tree_in, planted};
+ghost use Rattle.marshal_read.specs.Making.{nothing};
 
-use crate::arena::Entry;
 use crate::error::{ReadError, refuse};
+use crate::span::Span;
+use crate::steps::Step;
 use marshal_grammar::long::long_at;
 use marshal_grammar::refusal::Why;
 use sqlite_items::Items;
@@ -20,10 +21,10 @@ use std::marker::Model;
 pub struct Reader<'a> {
     pub(crate) rest: &'a [u8],
     pub(crate) at: usize,
-    pub(crate) symbols: Items<Items<u8>>,
-    pub(crate) objects: Items<Option<usize>>,
+    pub(crate) symbols: Items<Span<'a>>,
+    pub(crate) objects: Items<Option<(usize, usize)>>,
     pub(crate) nodes: u64,
-    pub(crate) entries: Items<Entry>,
+    pub(crate) steps: Items<Step<'a>>,
 }
 
 impl<'a> Model for Reader<'a> {
@@ -43,19 +44,20 @@ impl<'a> Model for Reader<'a> {
 }
 
 impl<'a> Reader<'a> {
-    /// A reader at the front of the bytes.
-    pub fn new(alloc: Global, bytes: &'a [u8]) -> Reader<'a>
+    /// A reader at the front of the bytes. It has room for a step for each eight bytes, and for 65,536 at most.
+    pub fn new(alloc: Global, bytes: &'a [u8]) -> Result<Reader<'a>, AllocError>
         requires { length bytes.now < 2 ^ 63 }
-        ensures { result ≡ record { rest = bytes.now; seen = opening; trees = [] } }
+        ensures { IfOk result (λ r. r ≡ record { rest = bytes.entry.now; seen = opening; steps = [] }) }
     {
-        Reader {
+        let steps = Items::from_vec(Vec::with_capacity(alloc, (bytes.len() / 8).min(65536))?);
+        Ok(Reader {
             rest: bytes,
             at: 0,
             symbols: Items::new(alloc),
             objects: Items::new(alloc),
             nodes: 0,
-            entries: Items::new(alloc),
-        }
+            steps,
+        })
     }
 
     /// The place reached.
@@ -81,9 +83,10 @@ impl<'a> Reader<'a> {
     }
 
     /// The next byte.
+    #[inline(always)]
     pub fn byte(&mut self) -> Result<u8, ReadError>
         ensures ok { IfOk result (λ b. reading byte self.old ≡ Ok (b, self.new.seen, self.new.rest)) }
-        ensures kept { OnOk result (self.new.trees ≡ self.old.trees) }
+        ensures kept { OnOk result (self.new.steps ≡ self.old.steps) }
         ensures err { IfErr result (λ e. Fails e (reading byte self.old)) }
     {
         let Some((first, more)) = self.rest.split_first() else {
@@ -97,7 +100,7 @@ impl<'a> Reader<'a> {
     /// The next `n` bytes.
     pub fn bytes(&mut self, n: u64) -> Result<&'a [u8], ReadError>
         ensures ok { IfOk result (λ b. reading (bytes n) self.old ≡ Ok (b.now, self.new.seen, self.new.rest)) }
-        ensures kept { OnOk result (self.new.trees ≡ self.old.trees) }
+        ensures kept { OnOk result (self.new.steps ≡ self.old.steps) }
         ensures err { IfErr result (λ e. Fails e (reading (bytes n) self.old)) }
     {
         if (self.rest.len() as u64) < n {
@@ -110,9 +113,10 @@ impl<'a> Reader<'a> {
     }
 
     /// The next long.
+    #[inline(always)]
     pub fn long(&mut self) -> Result<i64, ReadError>
         ensures ok { IfOk result (λ n. reading long self.old ≡ Ok (n, self.new.seen, self.new.rest)) }
-        ensures kept { OnOk result (self.new.trees ≡ self.old.trees) }
+        ensures kept { OnOk result (self.new.steps ≡ self.old.steps) }
         ensures err { IfErr result (λ e. Fails e (reading long self.old)) }
     {
         match long_at(self.rest, 0) {

@@ -1,38 +1,39 @@
 //! What a `u` holds: a remote object, or the class and the bytes of anything else.
 
-ghost use Rattle.std.specs.Prelude.{◌≡◌, ℕ, ◌+◌, ◌/◌, [], ◌∷◌, length, IfOk, IfErr, OnOk, Ok, Err, Some, None};
+ghost use Rattle.std.specs.Prelude.{◌≡◌, ℕ, ◌+◌, ◌/◌, ◌≤◌, [], ◌∷◌, ◌++◌, length, drop, IfOk, IfErr, OnOk, Ok, Err, Some, None};
 ghost use Rattle.drb_tree.specs.declared.Tree.TheViews.{out-Tree};
 ghost use Rattle.marshal_grammar.specs.Dumps.{version};
 ghost use Rattle.marshal_grammar.specs.Trees.{remote_of, remote_from, id_of};
 ghost use Rattle.marshal_grammar.specs.Values.{whole, held_value, held_nodes};
 ghost use Rattle.drb_value.specs.View.{layer};
 ghost use Rattle.marshal_read.specs.Fails.{Fails, reading};
-ghost use Rattle.marshal_read.specs.Arena.{tree_in, fields_at, Stands};
-ghost use Rattle.marshal_read.specs.Scopes.{held_is};
+ghost use Rattle.marshal_read.specs.Making.{made, value_of, MakesOne, HoldsFields};
+ghost use Rattle.marshal_read.specs.Scopes.{held_is, held_step, Foreign};
 
-use crate::arena::Entry;
 use crate::counts::heavy;
 use crate::error::{ReadError, refuse};
 use crate::reader::Reader;
+use crate::span::Span;
+use crate::steps::{Raw, Step};
 use drb_tree::{RefId, Remote};
 use drb_value::{Node, Value};
 use marshal_grammar::refusal::Why;
-use sqlite_items::Items;
+use sqlite_items::Boxed;
 use std::alloc::{AllocError, Global};
 
 /// What a `u` holds.
 #[derive(Drop)]
-pub enum Held {
+pub enum Held<'a> {
     Remote(Remote),
     /// The class and the bytes.
-    Other(Items<u8>, Items<u8>),
+    Other(Span<'a>, Span<'a>),
 }
 
 impl<'a> Reader<'a> {
     /// The byte `04` and a byte `00` to `08`.
     pub fn version(&mut self) -> Result<(), ReadError>
         ensures ok { OnOk result (reading version self.old ≡ Ok (tt, self.new.seen, self.new.rest)) }
-        ensures kept { OnOk result (self.new.trees ≡ self.old.trees) }
+        ensures kept { OnOk result (self.new.steps ≡ self.old.steps) }
         ensures err { IfErr result (λ e. Fails e (reading version self.old)) }
     {
         if self.byte()? != 4 {
@@ -44,29 +45,44 @@ impl<'a> Reader<'a> {
         Ok(())
     }
 
-    /// The value of what a `u` held, with these variables, which a remote object drops.
+    /// The value of what a `u` held. Its variables, `n` fields, are what the steps from `start` on make. A remote object
+    /// drops them.
     pub fn held_value(
         &mut self,
-        held: Held,
-        fields: Items<(Items<u8>, usize)>,
-    ) -> Result<usize, AllocError>
-        ensures ok { IfOk result (λ i. reading (whole (held_value (held_is held) (fields_at self.old.trees fields))) self.old ≡ Ok (tree_in self.new.trees i, self.new.seen, self.new.rest)) }
-        ensures stands { IfOk result (λ i. Stands i self.old.trees self.new.trees) }
+        alloc: Global,
+        held: Held<'a>,
+        start: usize,
+        n: usize,
+    ) -> Result<(), AllocError>
+        requires start { start ≤ length self.old.steps }
+        requires foreign { Foreign held }
+        requires fields { HoldsFields (drop start self.old.steps) n }
+        ensures ok { OnOk result (reading (whole (held_value (held_is held.entry) (made (drop start self.old.steps)).fields)) self.old ≡ Ok (value_of (drop start self.old.steps ++ (held_step held.entry n ∷ [])), self.new.seen, self.new.rest)) }
+        ensures steps { OnOk result (self.new.steps ≡ self.old.steps ++ (held_step held.entry n ∷ [])) }
     {
         match held {
-            Held::Remote(remote) => self.whole(Entry::Remote(remote)),
-            Held::Other(class, bytes) => self.whole(Entry::Dumped(class, bytes, fields)),
+            Held::Remote(remote) => {
+                let remote = Boxed::new(alloc, remote)?;
+                self.whole_from(start, Step::Remote(remote, n))
+            }
+            Held::Other(class, bytes) => {
+                let raw = Boxed::new(alloc, Raw { class, bytes })?;
+                self.whole_from(start, Step::Dumped(raw, n))
+            }
         }
     }
 }
 
 impl<'a> Reader<'a> {
-    /// The remote object that the value of an entry stands for.
-    pub fn remote(&self, alloc: Global, entry: usize) -> Result<Option<Remote>, AllocError>
-        ensures { IfOk result (λ r. r ≡ remote_of (out-Tree (tree_in self.now.trees entry))) }
+    /// The remote object that the value stands for that the steps make.
+    pub fn remote(&self, alloc: Global) -> Result<Option<Remote>, AllocError>
+        requires { MakesOne self.now.steps }
+        ensures { IfOk result (λ r. r ≡ remote_of (out-Tree (value_of self.now.steps))) }
     {
-        let value = self.build(alloc, entry)?;
-        remote_of(alloc, &value.node)
+        let value = self.built_since(alloc, 0)?;
+        let found = remote_of(alloc, &value.node);
+        drop(value);
+        found
     }
 }
 

@@ -1,6 +1,7 @@
 //! Symbols, names and encoding variables.
 
 ghost use Rattle.std.specs.Prelude.{◌≡◌, ℕ, ◌+◌, ◌<◌, List, [], ◌∷◌, ◌++◌, length, reverse, IfOk, IfErr, OnOk, Ok, Err, MatchOption, Option, Some, None};
+ghost use Rattle.std.specs.Option.{option_copied};
 ghost use Rattle.std.proofs.Common.{inl, inr};
 ghost use Rattle.drb_tree.specs.Same.{all_ascii};
 ghost use Rattle.drb_tree.specs.declared.Code.TheVariants.{Binary, Ascii, Utf8};
@@ -14,6 +15,7 @@ ghost use Rattle.marshal_read.specs.Rounds.{outcome, rounds_left, one_round};
 use crate::counts::heavy;
 use crate::error::{ReadError, refuse};
 use crate::reader::Reader;
+use crate::span::Span;
 use drb_tree::Code;
 use marshal_grammar::kind::{Kind, kind_of};
 use marshal_grammar::refusal::Why;
@@ -47,27 +49,27 @@ fn is_name(bytes: &[u8], code: Code) -> bool
 
 impl<'a> Reader<'a> {
     /// After `:`: a length and bytes, which are ASCII.
-    pub fn plain_symbol(&mut self, alloc: Global, at: usize) -> Result<Items<u8>, ReadError>
-        ensures ok { IfOk result (λ s. reading (plain_symbol at) self.old ≡ Ok (s, self.new.seen, self.new.rest)) }
-        ensures kept { OnOk result (self.new.trees ≡ self.old.trees) }
+    pub fn plain_symbol(&mut self, at: usize) -> Result<&'a [u8], ReadError>
+        ensures ok { IfOk result (λ s. reading (plain_symbol at) self.old ≡ Ok (s.now, self.new.seen, self.new.rest)) }
+        ensures kept { OnOk result (self.new.steps ≡ self.old.steps) }
         ensures err { IfErr result (λ e. Fails e (reading (plain_symbol at) self.old)) }
     {
         let s = self.string()?;
-        self.add_symbol(alloc, s)?;
+        self.add_symbol(s)?;
         if !all_ascii(s) {
             return Err(refuse(Why::Name, at));
         }
-        Ok(Items::from_slice(alloc, s)?)
+        Ok(s)
     }
 
     /// After `;`: the number of a symbol.
-    pub fn linked_symbol(&mut self, alloc: Global, at: usize) -> Result<Items<u8>, ReadError>
-        ensures ok { IfOk result (λ s. reading (linked_symbol at) self.old ≡ Ok (s, self.new.seen, self.new.rest)) }
-        ensures kept { OnOk result (self.new.trees ≡ self.old.trees) }
+    pub fn linked_symbol(&mut self, at: usize) -> Result<&'a [u8], ReadError>
+        ensures ok { IfOk result (λ s. reading (linked_symbol at) self.old ≡ Ok (s.now, self.new.seen, self.new.rest)) }
+        ensures kept { OnOk result (self.new.steps ≡ self.old.steps) }
         ensures err { IfErr result (λ e. Fails e (reading (linked_symbol at) self.old)) }
     {
         let n = self.long()?;
-        match self.symbol_at(alloc, n)? {
+        match self.symbol_at(n) {
             None => Err(refuse(Why::SymbolLink, at)),
             Some(s) => Ok(s),
         }
@@ -76,7 +78,7 @@ impl<'a> Reader<'a> {
     /// How many encoding variables follow: none or one.
     fn encoding_count(&mut self, at: usize) -> Result<u64, ReadError>
         ensures ok { IfOk result (λ n. reading (encoding_count at) self.old ≡ Ok (n, self.new.seen, self.new.rest)) }
-        ensures kept { OnOk result (self.new.trees ≡ self.old.trees) }
+        ensures kept { OnOk result (self.new.steps ≡ self.old.steps) }
         ensures err { IfErr result (λ e. Fails e (reading (encoding_count at) self.old)) }
     {
         let n = self.count()?;
@@ -89,7 +91,7 @@ impl<'a> Reader<'a> {
     /// After the name of an encoding variable, which is `E`: its value.
     fn encoding_value(&mut self, at: usize, name: &[u8]) -> Result<Code, ReadError>
         ensures ok { IfOk result (λ c. reading (encoding_value at name.now) self.old ≡ Ok (c, self.new.seen, self.new.rest)) }
-        ensures kept { OnOk result (self.new.trees ≡ self.old.trees) }
+        ensures kept { OnOk result (self.new.steps ≡ self.old.steps) }
         ensures err { IfErr result (λ e. Fails e (reading (encoding_value at name.now) self.old)) }
     {
         if name != b"E".as_slice() {
@@ -105,20 +107,20 @@ impl<'a> Reader<'a> {
     /// A symbol is read: it is the `E` of the last that waits, which then is read too.
     fn ended(
         &mut self,
-        waiting: &mut Items<(usize, Items<u8>)>,
-        symbol: Items<u8>,
-    ) -> Result<Items<u8>, ReadError>
-        ensures ok { IfOk result (λ s. reading (ended (reverse waiting.old) symbol) self.old ≡ Ok (inr s, self.new.seen, self.new.rest)) }
-        ensures kept { OnOk result (self.new.trees ≡ self.old.trees) }
-        ensures err { IfErr result (λ e. Fails e (reading (ended (reverse waiting.old) symbol) self.old)) }
+        waiting: &mut Items<(usize, Span<'a>)>,
+        symbol: &'a [u8],
+    ) -> Result<&'a [u8], ReadError>
+        ensures ok { IfOk result (λ s. reading (ended (reverse waiting.old) symbol.now) self.old ≡ Ok (inr s.now, self.new.seen, self.new.rest)) }
+        ensures kept { OnOk result (self.new.steps ≡ self.old.steps) }
+        ensures err { IfErr result (λ e. Fails e (reading (ended (reverse waiting.old) symbol.now) self.old)) }
     {
         let mut symbol = symbol;
         while let Some((at, waited)) = waiting.pop() {
-            let code = self.encoding_value(at, symbol.as_slice())?;
-            if !is_name(waited.as_slice(), code) {
+            let code = self.encoding_value(at, symbol)?;
+            symbol = waited.as_slice();
+            if !is_name(symbol, code) {
                 return Err(refuse(Why::Name, at));
             }
-            symbol = waited;
         }
         Ok(symbol)
     }
@@ -126,12 +128,11 @@ impl<'a> Reader<'a> {
     /// After `I`, where a symbol must stand. `None`: it waits for its encoding.
     fn marked_round(
         &mut self,
-        alloc: Global,
         at: usize,
-        waiting: &mut Items<(usize, Items<u8>)>,
-    ) -> Result<Option<Items<u8>>, ReadError>
-        ensures ok { IfOk result (λ s. reading (marked_round at (reverse waiting.old)) self.old ≡ Ok (outcome s (reverse waiting.new), self.new.seen, self.new.rest)) }
-        ensures kept { OnOk result (self.new.trees ≡ self.old.trees) }
+        waiting: &mut Items<(usize, Span<'a>)>,
+    ) -> Result<Option<&'a [u8]>, ReadError>
+        ensures ok { IfOk result (λ s. reading (marked_round at (reverse waiting.old)) self.old ≡ Ok (outcome (option_copied s) (reverse waiting.new), self.new.seen, self.new.rest)) }
+        ensures kept { OnOk result (self.new.steps ≡ self.old.steps) }
         ensures err { IfErr result (λ e. Fails e (reading (marked_round at (reverse waiting.old)) self.old)) }
     {
         let place = self.at();
@@ -140,41 +141,39 @@ impl<'a> Reader<'a> {
             return Err(refuse(Why::BadType(mark), place));
         }
         let s = self.string()?;
-        self.add_symbol(alloc, s)?;
+        self.add_symbol(s)?;
         let n = self.encoding_count(at)?;
-        let symbol = Items::from_slice(alloc, s)?;
         if n == 0 {
-            if !is_name(symbol.as_slice(), Code::Binary) {
+            if !is_name(s, Code::Binary) {
                 return Err(refuse(Why::Name, at));
             }
-            return Ok(Some(self.ended(waiting, symbol)?));
+            return Ok(Some(self.ended(waiting, s)?));
         }
-        waiting.push((at, symbol))?;
+        waiting.push((at, Span::of(s)))?;
         Ok(None)
     }
 
     /// What the first byte of a symbol says.
     fn symbol_by(
         &mut self,
-        alloc: Global,
         at: usize,
         first: u8,
-        waiting: &mut Items<(usize, Items<u8>)>,
-    ) -> Result<Option<Items<u8>>, ReadError>
-        ensures ok { IfOk result (λ s. reading (symbol_by at (reverse waiting.old) first (kind_of first)) self.old ≡ Ok (outcome s (reverse waiting.new), self.new.seen, self.new.rest)) }
-        ensures kept { OnOk result (self.new.trees ≡ self.old.trees) }
+        waiting: &mut Items<(usize, Span<'a>)>,
+    ) -> Result<Option<&'a [u8]>, ReadError>
+        ensures ok { IfOk result (λ s. reading (symbol_by at (reverse waiting.old) first (kind_of first)) self.old ≡ Ok (outcome (option_copied s) (reverse waiting.new), self.new.seen, self.new.rest)) }
+        ensures kept { OnOk result (self.new.steps ≡ self.old.steps) }
         ensures err { IfErr result (λ e. Fails e (reading (symbol_by at (reverse waiting.old) first (kind_of first)) self.old)) }
     {
         match kind_of(first) {
             Some(Kind::Symbol) => {
-                let s = self.plain_symbol(alloc, at)?;
+                let s = self.plain_symbol(at)?;
                 Ok(Some(self.ended(waiting, s)?))
             }
             Some(Kind::SymbolLink) => {
-                let s = self.linked_symbol(alloc, at)?;
+                let s = self.linked_symbol(at)?;
                 Ok(Some(self.ended(waiting, s)?))
             }
-            Some(Kind::Marked) => self.marked_round(alloc, at, waiting),
+            Some(Kind::Marked) => self.marked_round(at, waiting),
             _ => Err(refuse(Why::BadType(first), at)),
         }
     }
@@ -182,27 +181,26 @@ impl<'a> Reader<'a> {
     /// One round of a symbol: its first byte and what that says.
     fn symbol_round(
         &mut self,
-        alloc: Global,
-        waiting: &mut Items<(usize, Items<u8>)>,
-    ) -> Result<Option<Items<u8>>, ReadError>
-        ensures ok { IfOk result (λ s. reading (one_round (reverse waiting.old)) self.old ≡ Ok (outcome s (reverse waiting.new), self.new.seen, self.new.rest)) }
-        ensures kept { OnOk result (self.new.trees ≡ self.old.trees) }
+        waiting: &mut Items<(usize, Span<'a>)>,
+    ) -> Result<Option<&'a [u8]>, ReadError>
+        ensures ok { IfOk result (λ s. reading (one_round (reverse waiting.old)) self.old ≡ Ok (outcome (option_copied s) (reverse waiting.new), self.new.seen, self.new.rest)) }
+        ensures kept { OnOk result (self.new.steps ≡ self.old.steps) }
         ensures err { IfErr result (λ e. Fails e (reading (one_round (reverse waiting.old)) self.old)) }
     {
         let at = self.at();
         let first = self.byte()?;
-        self.symbol_by(alloc, at, first, waiting)
+        self.symbol_by(at, first, waiting)
     }
 
     /// A symbol: `:`, `;` or `I:`.
-    pub fn symbol(&mut self, alloc: Global) -> Result<Items<u8>, ReadError>
-        ensures ok { IfOk result (λ s. reading symbol self.old ≡ Ok (s, self.new.seen, self.new.rest)) }
-        ensures kept { OnOk result (self.new.trees ≡ self.old.trees) }
+    pub fn symbol(&mut self, alloc: Global) -> Result<&'a [u8], ReadError>
+        ensures ok { IfOk result (λ s. reading symbol self.old ≡ Ok (s.now, self.new.seen, self.new.rest)) }
+        ensures kept { OnOk result (self.new.steps ≡ self.old.steps) }
         ensures err { IfErr result (λ e. Fails e (reading symbol self.old)) }
     {
         let mut waiting = Items::new(alloc);
         for _ in 0..self.left() + 1 {
-            if let Some(s) = self.symbol_round(alloc, &mut waiting)? {
+            if let Some(s) = self.symbol_round(&mut waiting)? {
                 return Ok(s);
             }
         }
@@ -210,42 +208,42 @@ impl<'a> Reader<'a> {
     }
 
     /// A class symbol, or the name of a field or variable: it counts by its bytes at its place.
-    pub fn name(&mut self, alloc: Global) -> Result<Items<u8>, ReadError>
-        ensures ok { IfOk result (λ s. reading name self.old ≡ Ok (s, self.new.seen, self.new.rest)) }
-        ensures kept { OnOk result (self.new.trees ≡ self.old.trees) }
+    pub fn name(&mut self, alloc: Global) -> Result<&'a [u8], ReadError>
+        ensures ok { IfOk result (λ s. reading name self.old ≡ Ok (s.now, self.new.seen, self.new.rest)) }
+        ensures kept { OnOk result (self.new.steps ≡ self.old.steps) }
         ensures err { IfErr result (λ e. Fails e (reading name self.old)) }
     {
         let at = self.at();
         let s = self.symbol(alloc)?;
-        self.count_nodes(at, heavy(s.as_slice()))?;
+        self.count_nodes(at, heavy(s))?;
         Ok(s)
     }
 
     /// Encoding variables: none, binary; one, the symbol `E` and `T` or `F`.
     pub fn encoding(&mut self, alloc: Global, at: usize) -> Result<Code, ReadError>
         ensures ok { IfOk result (λ c. reading (encoding at) self.old ≡ Ok (c, self.new.seen, self.new.rest)) }
-        ensures kept { OnOk result (self.new.trees ≡ self.old.trees) }
+        ensures kept { OnOk result (self.new.steps ≡ self.old.steps) }
         ensures err { IfErr result (λ e. Fails e (reading (encoding at) self.old)) }
     {
         if self.encoding_count(at)? == 0 {
             return Ok(Code::Binary);
         }
         let name = self.symbol(alloc)?;
-        self.encoding_value(at, name.as_slice())
+        self.encoding_value(at, name)
     }
 
     /// After `I:` of a value: a length and bytes, and encoding variables.
-    pub fn marked_symbol(&mut self, alloc: Global, at: usize) -> Result<Items<u8>, ReadError>
-        ensures ok { IfOk result (λ s. reading (marked_symbol at) self.old ≡ Ok (s, self.new.seen, self.new.rest)) }
-        ensures kept { OnOk result (self.new.trees ≡ self.old.trees) }
+    pub fn marked_symbol(&mut self, alloc: Global, at: usize) -> Result<&'a [u8], ReadError>
+        ensures ok { IfOk result (λ s. reading (marked_symbol at) self.old ≡ Ok (s.now, self.new.seen, self.new.rest)) }
+        ensures kept { OnOk result (self.new.steps ≡ self.old.steps) }
         ensures err { IfErr result (λ e. Fails e (reading (marked_symbol at) self.old)) }
     {
         let s = self.string()?;
-        self.add_symbol(alloc, s)?;
+        self.add_symbol(s)?;
         let code = self.encoding(alloc, at)?;
         if !is_name(s, code) {
             return Err(refuse(Why::Name, at));
         }
-        Ok(Items::from_slice(alloc, s)?)
+        Ok(s)
     }
 }

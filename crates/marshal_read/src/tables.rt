@@ -1,74 +1,126 @@
-//! What the bytes so far leave: symbols, objects, nodes and values.
+//! What the bytes so far leave: symbols, objects, nodes, and the steps that make what was read.
 
-ghost use Rattle.std.specs.Prelude.{◌≡◌, ℕ, ◌+◌, ◌<◌, ◌^◌, [], ◌∷◌, ◌++◌, length, IfOk, IfErr, OnOk, Ok, Err, slice_get, Some, None, option_map};
+ghost use Rattle.std.specs.Prelude.{◌≡◌, ℕ, ◌+◌, ◌≤◌, ◌<◌, ◌^◌, [], ◌∷◌, ◌++◌, length, drop, IfOk, IfErr, OnOk, Ok, Err, slice_get, Some, None, option_map};
+ghost use Rattle.std.specs.Option.{option_copied};
 ghost use Rattle.marshal_grammar.specs.Contexts.{add_symbol, begin_object, add_object, finish_object};
 ghost use Rattle.marshal_grammar.specs.Values.{object_at};
 ghost use Rattle.marshal_grammar.specs.Symbols.{symbol_at};
 ghost use Rattle.marshal_grammar.specs.Counts.{count_nodes};
 ghost use Rattle.marshal_read.specs.Fails.{Fails, reading};
-ghost use Rattle.marshal_read.specs.Arena.{tree_in, planted, Stands};
-ghost use Rattle.marshal_read.specs.View.{layer};
+ghost use Rattle.marshal_read.specs.Making.{value_of, MakesOne, cut, Stands};
 
-use crate::arena::Entry;
+use crate::build::built;
 use crate::error::{ReadError, refuse};
 use crate::reader::Reader;
+use crate::span::Span;
+use crate::steps::Step;
+use drb_value::Value;
 use marshal_grammar::refusal::Why;
-use sqlite_items::Items;
 use std::alloc::{AllocError, Global};
+
+/// An object that has begun: its number, and how many steps were before it.
+#[derive(Clone, Copy)]
+pub struct Begun {
+    pub number: usize,
+    pub start: usize,
+}
 
 impl<'a> Reader<'a> {
     /// Gives a symbol the next number.
-    pub fn add_symbol(&mut self, alloc: Global, symbol: &[u8]) -> Result<(), AllocError>
+    pub fn add_symbol(&mut self, symbol: &'a [u8]) -> Result<(), AllocError>
         ensures { OnOk result (self.new ≡ record self.old { seen = add_symbol symbol.now self.old.seen }) }
     {
-        self.symbols.push(Items::from_slice(alloc, symbol)?)?;
+        self.symbols.push(Span::of(symbol))?;
         Ok(())
+    }
+
+    /// How many steps there are.
+    pub fn count_steps(&self) -> usize
+        ensures { result ≡ length self.now.steps }
+    {
+        self.steps.len()
     }
 
     /// An object begins: it gets the next number.
-    pub fn begin_object(&mut self) -> Result<usize, AllocError>
+    #[inline(always)]
+    pub fn begin_object(&mut self) -> Result<Begun, AllocError>
         ensures state { OnOk result (self.new ≡ record self.old { seen = begin_object self.old.seen }) }
-        ensures number { IfOk result (λ k. k ≡ length self.old.seen.objects) }
+        ensures number { IfOk result (λ k. k.number ≡ length self.old.seen.objects) }
+        ensures start { IfOk result (λ k. k.start ≡ length self.old.steps) }
     {
         let number = self.objects.len();
+        let start = self.steps.len();
         self.objects.push(None)?;
-        Ok(number)
+        Ok(Begun { number, start })
     }
 
-    /// The object of that number is the value of that entry.
-    pub fn finish_object(&mut self, number: usize, entry: usize)
-        requires { entry < length self.old.trees }
-        ensures { self.new ≡ record self.old { seen = finish_object number (tree_in self.old.trees entry) self.old.seen } }
+    /// The object is what the steps since its beginning make.
+    pub fn finish_object(&mut self, begun: Begun)
+        requires start { begun.start ≤ length self.old.steps }
+        requires makes { MakesOne (drop begun.start self.old.steps) }
+        ensures { self.new ≡ record self.old { seen = finish_object begun.number (value_of (drop begun.start self.old.steps)) self.old.seen } }
     {
-        if number < self.objects.len() {
-            self.objects.set(number, Some(entry));
+        if begun.number < self.objects.len() {
+            let end = self.steps.len();
+            self.objects.set(begun.number, Some((begun.start, end)));
         }
     }
 
-    /// An object that is finished at once gets the next number.
-    pub fn add_object(&mut self, entry: usize) -> Result<(), AllocError>
-        requires { entry < length self.old.trees }
-        ensures { OnOk result (self.new ≡ record self.old { seen = add_object (tree_in self.old.trees entry) self.old.seen }) }
+    /// An object that is finished at once gets the next number. It is what the steps from `start` on make.
+    pub fn add_object(&mut self, start: usize) -> Result<(), AllocError>
+        requires start { start ≤ length self.old.steps }
+        requires makes { MakesOne (drop start self.old.steps) }
+        ensures { OnOk result (self.new ≡ record self.old { seen = add_object (value_of (drop start self.old.steps)) self.old.seen }) }
     {
-        self.objects.push(Some(entry))?;
+        let end = self.steps.len();
+        self.objects.push(Some((start, end)))?;
         Ok(())
     }
 
-    /// Adds an entry at the end.
-    pub fn push(&mut self, entry: Entry) -> Result<usize, AllocError>
-        ensures state { OnOk result (self.new ≡ record self.old { trees = self.old.trees ++ (planted self.old.trees (layer entry) ∷ []) }) }
-        ensures value { IfOk result (λ i. tree_in self.new.trees i ≡ planted self.old.trees (layer entry)) }
-        ensures stands { IfOk result (λ i. Stands i self.old.trees self.new.trees) }
+    /// Adds a step at the end.
+    #[inline(always)]
+    pub fn push(&mut self, step: Step<'a>) -> Result<(), AllocError>
+        ensures { OnOk result (self.new ≡ record self.old { steps = self.old.steps ++ (step.entry ∷ []) }) }
     {
-        let index = self.entries.len();
-        self.entries.push(entry)?;
-        Ok(index)
+        self.steps.push(step)?;
+        Ok(())
+    }
+
+    /// The value that the steps of this range make.
+    pub fn built(&self, alloc: Global, range: (usize, usize)) -> Result<Value, AllocError>
+        requires { Stands self.now.steps range }
+        ensures { IfOk result (λ v. v ≡ value_of (cut range self.now.steps)) }
+    {
+        let (start, end) = range;
+        built(alloc, &self.steps.as_slice()[..end][start..])
+    }
+
+    /// The value that the steps from `start` on make.
+    pub fn built_since(&self, alloc: Global, start: usize) -> Result<Value, AllocError>
+        requires start { start ≤ length self.now.steps }
+        requires makes { MakesOne (drop start self.now.steps) }
+        ensures { IfOk result (λ v. v ≡ value_of (drop start self.now.steps)) }
+    {
+        built(alloc, &self.steps.as_slice()[start..])
+    }
+
+    /// Takes the steps of this range once more.
+    pub fn repeat(&mut self, alloc: Global, range: (usize, usize)) -> Result<(), AllocError>
+        requires { Stands self.old.steps range }
+        ensures { OnOk result (self.new ≡ record self.old { steps = self.old.steps ++ cut range self.old.steps }) }
+    {
+        for i in range.0..range.1 {
+            let step = self.steps.as_slice()[i].copy(alloc)?;
+            self.push(step)?;
+        }
+        Ok(())
     }
 
     /// Counts `k` nodes more at this place.
+    #[inline(always)]
     pub fn count_nodes(&mut self, at: usize, k: u64) -> Result<(), ReadError>
         ensures ok { OnOk result (reading (count_nodes at k) self.old ≡ Ok (tt, self.new.seen, self.new.rest)) }
-        ensures kept { OnOk result (self.new.trees ≡ self.old.trees) }
+        ensures kept { OnOk result (self.new.steps ≡ self.old.steps) }
         ensures err { IfErr result (λ e. Fails e (reading (count_nodes at k) self.old)) }
     {
         let nodes = self.nodes.saturating_add(k);
@@ -79,10 +131,10 @@ impl<'a> Reader<'a> {
         Ok(())
     }
 
-    /// The entry of a finished object; `Some(None)` where it is not finished.
-    pub fn object(&self, number: i64) -> Option<Option<usize>>
-        ensures object { option_map (option_map (tree_in self.now.trees)) result ≡ object_at self.now.seen number }
-        ensures within { (i : ℕ) → result ≡ Some (Some i) → i < length self.now.trees }
+    /// The range of steps of a finished object; `Some(None)` where it is not finished.
+    pub fn object(&self, number: i64) -> Option<Option<(usize, usize)>>
+        ensures object { option_map (option_map (λ r. value_of (cut r self.now.steps))) result ≡ object_at self.now.seen number }
+        ensures stands { (r : ℕ × ℕ) → result ≡ Some (Some r) → Stands self.now.steps r }
     {
         if number < 0 {
             return None;
@@ -94,15 +146,15 @@ impl<'a> Reader<'a> {
     }
 
     /// The symbol of that number.
-    pub fn symbol_at(&self, alloc: Global, number: i64) -> Result<Option<Items<u8>>, AllocError>
-        ensures { IfOk result (λ s. s ≡ symbol_at self.now.seen number) }
+    pub fn symbol_at(&self, number: i64) -> Option<&'a [u8]>
+        ensures { option_copied result ≡ symbol_at self.now.seen number }
     {
         if number < 0 {
-            return Ok(None);
+            return None;
         }
         match self.symbols.get(number as usize) {
-            None => Ok(None),
-            Some(s) => Ok(Some(Items::from_slice(alloc, s.as_slice())?)),
+            None => None,
+            Some(s) => Some(s.as_slice()),
         }
     }
 }

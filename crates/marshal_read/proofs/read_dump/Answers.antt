@@ -1,38 +1,39 @@
-use Rattle.std.proofs.Common.{◌-◌, length, Ok, Err}
+use Rattle.std.proofs.Common.{◌-◌, ◌∙◌, sym, ap, length, Ok, Err}
 use Rattle.std.proofs.lemmas.Result.{err_from_is_err_and}
-use Rattle.marshal_read.specs.Arena.{tree_in}
+use Rattle.marshal_read.specs.State.{State}
+use Rattle.marshal_read.specs.Making.{added}
 use Rattle.marshal_read.proofs.Whole.{so_err, so_done, left_within, so_dump, so_refusal, so_every_dump, so_every_refusal}
 use Rattle.marshal_read.proofs.read_dump.Goals as goal
 
-pub returns-in_err-index-clause-refusal : goal.returns-in_err-index-clause-refusal
-returns-in_err-index-clause-refusal c =
-    let p = err_from_is_err_and c.from_residual.result c.from_residual.ensures.1 in
-    rw (p.1, p.2) (so_refusal c.args.bytes.now (Err c.in_err-index.field-0.0) (so_err c.args.bytes.now c.new-reader.result c.in_err-index.field-0.0 c.new-reader.ensures c.in_err-index.ensures.err))
+pub returns-in_err-dump_with-clause-refusal : goal.returns-in_err-dump_with-clause-refusal
+returns-in_err-dump_with-clause-refusal c =
+    let p = err_from_is_err_and c.from_residual-in_err-dump_with.result c.from_residual-in_err-dump_with.ensures.1 in
+    rw (p.1, p.2) (so_refusal c.args.bytes.now (Err c.in_err-dump_with.field-0.0) (so_err c.args.bytes.now c.in_ok-reader.reader c.in_err-dump_with.field-0.0 c.in_ok-reader.ensures c.in_err-dump_with.ensures.err))
 
-pub returns-in_err-index-clause-every_dump : goal.returns-in_err-index-clause-every_dump
-returns-in_err-index-clause-every_dump c =
-    let p = err_from_is_err_and c.from_residual.result c.from_residual.ensures.1 in
-    rw (p.1, p.2) (so_every_dump c.args.bytes.now (Err c.in_err-index.field-0.0) (so_err c.args.bytes.now c.new-reader.result c.in_err-index.field-0.0 c.new-reader.ensures c.in_err-index.ensures.err))
+pub returns-in_err-dump_with-clause-every_dump : goal.returns-in_err-dump_with-clause-every_dump
+returns-in_err-dump_with-clause-every_dump c =
+    let p = err_from_is_err_and c.from_residual-in_err-dump_with.result c.from_residual-in_err-dump_with.ensures.1 in
+    rw (p.1, p.2) (so_every_dump c.args.bytes.now (Err c.in_err-dump_with.field-0.0) (so_err c.args.bytes.now c.in_ok-reader.reader c.in_err-dump_with.field-0.0 c.in_ok-reader.ensures c.in_err-dump_with.ensures.err))
 
-pub returns-in_err-index-clause-every_refusal : goal.returns-in_err-index-clause-every_refusal
-returns-in_err-index-clause-every_refusal c =
-    let p = err_from_is_err_and c.from_residual.result c.from_residual.ensures.1 in
-    rw (p.1, p.2) (so_every_refusal c.args.bytes.now (Err c.in_err-index.field-0.0) (so_err c.args.bytes.now c.new-reader.result c.in_err-index.field-0.0 c.new-reader.ensures c.in_err-index.ensures.err))
+pub returns-in_err-dump_with-clause-every_refusal : goal.returns-in_err-dump_with-clause-every_refusal
+returns-in_err-dump_with-clause-every_refusal c =
+    let p = err_from_is_err_and c.from_residual-in_err-dump_with.result c.from_residual-in_err-dump_with.ensures.1 in
+    rw (p.1, p.2) (so_every_refusal c.args.bytes.now (Err c.in_err-dump_with.field-0.0) (so_err c.args.bytes.now c.in_ok-reader.reader c.in_err-dump_with.field-0.0 c.in_ok-reader.ensures c.in_err-dump_with.ensures.err))
 
 pub overflow_sub-result : goal.overflow_sub-result
-overflow_sub-result c = left_within c.args.bytes.now c.new-reader.result c.dump_with.new.self (tree_in c.dump_with.new.self.trees c.in_ok-index.index) c.left.result c.new-reader.ensures c.in_ok-index.ensures.ok c.left.ensures.left
+overflow_sub-result c = left_within c.args.bytes.now c.in_ok-reader.reader c.dump_with.new.self (added c.in_ok-reader.reader.steps c.dump_with.new.self.steps) c.left.result c.in_ok-reader.ensures c.in_ok-dump_with.ensures.ok c.left.ensures.left
 
 pub returns-clause-dump : goal.returns-clause-dump
 returns-clause-dump c =
     so_dump c.args.bytes.now (Ok (c.in_ok-value.value, length c.args.bytes.now - c.left.result))
-    (so_done c.args.bytes.now c.new-reader.result c.dump_with.new.self (tree_in c.dump_with.new.self.trees c.in_ok-index.index) c.in_ok-value.value c.left.result c.new-reader.ensures c.in_ok-index.ensures.ok c.in_ok-value.ensures c.left.ensures.left)
+    (so_done c.args.bytes.now c.in_ok-reader.reader c.dump_with.new.self (added c.in_ok-reader.reader.steps c.dump_with.new.self.steps) c.in_ok-value.value c.left.result c.in_ok-reader.ensures c.in_ok-dump_with.ensures.ok (c.in_ok-value.ensures ∙ ap (λ (s : State). added s.steps c.dump_with.new.self.steps) (sym c.in_ok-reader.ensures)) c.left.ensures.left)
 
 pub returns-clause-every_dump : goal.returns-clause-every_dump
 returns-clause-every_dump c =
     so_every_dump c.args.bytes.now (Ok (c.in_ok-value.value, length c.args.bytes.now - c.left.result))
-    (so_done c.args.bytes.now c.new-reader.result c.dump_with.new.self (tree_in c.dump_with.new.self.trees c.in_ok-index.index) c.in_ok-value.value c.left.result c.new-reader.ensures c.in_ok-index.ensures.ok c.in_ok-value.ensures c.left.ensures.left)
+    (so_done c.args.bytes.now c.in_ok-reader.reader c.dump_with.new.self (added c.in_ok-reader.reader.steps c.dump_with.new.self.steps) c.in_ok-value.value c.left.result c.in_ok-reader.ensures c.in_ok-dump_with.ensures.ok (c.in_ok-value.ensures ∙ ap (λ (s : State). added s.steps c.dump_with.new.self.steps) (sym c.in_ok-reader.ensures)) c.left.ensures.left)
 
 pub returns-clause-every_refusal : goal.returns-clause-every_refusal
 returns-clause-every_refusal c =
     so_every_refusal c.args.bytes.now (Ok (c.in_ok-value.value, length c.args.bytes.now - c.left.result))
-    (so_done c.args.bytes.now c.new-reader.result c.dump_with.new.self (tree_in c.dump_with.new.self.trees c.in_ok-index.index) c.in_ok-value.value c.left.result c.new-reader.ensures c.in_ok-index.ensures.ok c.in_ok-value.ensures c.left.ensures.left)
+    (so_done c.args.bytes.now c.in_ok-reader.reader c.dump_with.new.self (added c.in_ok-reader.reader.steps c.dump_with.new.self.steps) c.in_ok-value.value c.left.result c.in_ok-reader.ensures c.in_ok-dump_with.ensures.ok (c.in_ok-value.ensures ∙ ap (λ (s : State). added s.steps c.dump_with.new.self.steps) (sym c.in_ok-reader.ensures)) c.left.ensures.left)

@@ -1,5 +1,5 @@
 use Rattle.std.proofs.Common.{◌≡◌, drop}
-use Rattle.marshal_read.specs.Arena.{key_in}
+use Rattle.marshal_read.specs.Making.{key_in}
 use Rattle.marshal_read.proofs.parts.has_key.Given as goal
 
 abbrev pub invariant-loop-other : goal.invariant-loop-other

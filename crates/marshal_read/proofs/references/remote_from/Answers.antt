@@ -1,4 +1,3 @@
-use Rattle.std.proofs.Common.{◌≡◌, Option, IfOk}
 use Rattle.marshal_read.proofs.Remotes.{layers_are}
 use Rattle.marshal_read.proofs.references.remote_from.Goals as goal
 

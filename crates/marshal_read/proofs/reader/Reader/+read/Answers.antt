@@ -1,89 +1,38 @@
-use Rattle.std.proofs.Common.{◌≡◌, ℕ, ◌∙◌, ◌+◌, ◌-◌, suc, List, [], Bool, true, false, Option, Ok, Err, IfOk, IfErr, sym, refl, ap, subst, arith}
+use Rattle.std.proofs.Common.{◌≡◌, ℕ, ◌∙◌, List, [], ◌∷◌, ◌++◌, drop, length, Bool, true, false, Option, None, Some, Ok, Err, IfErr, sym, ap, subst}
+use Rattle.std.specs.Prelude.{OnOk}
 use Rattle.std.proofs.lemmas.Result.{err_from_is_err_and, IfOk-weaker}
 use Rattle.drb_tree.specs.declared.Remote.{Remote}
 use Rattle.drb_tree.specs.declared.Tree.{Tree}
 use Rattle.drb_tree.specs.declared.Tree.TheViews.{out-Tree}
-use Rattle.drb_tree.specs.Kept.{has_name}
 use Rattle.marshal_grammar.specs.Contexts.{opening}
 use Rattle.marshal_grammar.specs.Dumps.{dump_with}
 use Rattle.marshal_grammar.specs.Reading.{Read, read}
 use Rattle.marshal_grammar.specs.Trees.{remote_of}
-use Rattle.marshal_read.specs.State.{State}
-use Rattle.marshal_read.specs.Arena.{tree_in, pairs_at, fields_at, key_in, Stands}
-use Rattle.marshal_read.specs.declared.error.ReadError.{ReadError}
-use Rattle.marshal_read.proofs.Pieces.{pairs_at-grown}
-use Rattle.marshal_read.proofs.Hashes.{default_hash_ok}
-use Rattle.marshal_read.proofs.Opened.{opened, closed, untyped, missing, given_ok, given_err}
 use Rattle.marshal_grammar.specs.Values.{values, pairs, fields}
+use Rattle.marshal_read.specs.declared.steps.Step.{Step}
+use Rattle.marshal_read.specs.State.{State}
+use Rattle.marshal_read.specs.Making.{added, value_of, key_in, name_in}
+use Rattle.marshal_read.specs.declared.error.ReadError.{ReadError}
 use Rattle.marshal_read.specs.Fails.{Fails, reading}
 use Rattle.marshal_read.specs.Scopes.{reference_in, part_in, given}
-use Rattle.marshal_read.proofs.Loops.{values_begin, values_more, values_done, values_failed, pairs_begin, pairs_more, pairs_done, pairs_failed, pairs_double, pairs_failed_value, fields_begin, fields_more, fields_done, fields_failed, fields_double, fields_failed_value}
+use Rattle.marshal_grammar.specs.Trees.{list, hash, object, structure, wrapped}
+use Rattle.marshal_grammar.specs.Values as V
+use Rattle.marshal_read.specs.declared.steps.Step.TheVariants as S
+use Rattle.marshal_read.specs.Making.{since, values_in, pairs_in, fields_in}
+use Rattle.marshal_read.specs.Scopes.{held_is, held_step, fields_form}
+use Rattle.marshal_read.proofs.Adding.{list_ends, hash_ends, object_ends, struct_ends, wrapped_ends, default_ends, extends_then}
+use Rattle.marshal_read.proofs.Holding.{held_ends}
+use Rattle.marshal_read.proofs.Closed.{close_makes, close_adds, close_read, list_read, hash_read, default_hash_read, fields_read, wrapped_read, steps_of}
+use Rattle.marshal_read.proofs.Opened.{opened, closed, untyped, missing, given_ok, given_err}
+use Rattle.marshal_read.proofs.Loops.{values_begin, values_more, pairs_begin, pairs_more, pairs_double, pairs_failed_value, fields_more, fields_double, fields_failed_value}
 use Rattle.marshal_read.proofs.reader.Reader.+read.Goals as goal
 
 pub values-loop-init : goal.values-loop-init
-values-loop-init t c = values_begin (part_in c.args.nested c.args.room) c.args.n c.new-found.result c.args.self.now c.new-found.ensures
+values-loop-init t c = values_begin (part_in c.args.nested c.args.room) c.args.n c.args.self.now
 
 pub values-loop-preserved : goal.values-loop-preserved
 values-loop-preserved t c =
-    rw c.in_ok-push.ensures.ok
-    (values_more (reading (values (part_in c.args.nested c.args.room) c.args.n) c.args.self.now) (part_in c.args.nested c.args.room) c.args.n c.loop.counter c.loop.found c.args.self.now.trees c.loop.self c.value.new.self c.in_ok-part.part c.loop-test.true c.loop.invariant c.in_ok-part.ensures.ok c.in_ok-part.ensures.stands)
-
-pub values-returns-clause-ok : goal.values-returns-clause-ok
-values-returns-clause-ok t c = values_done (reading (values (part_in c.args.nested c.args.room) c.args.n) c.args.self.now) (part_in c.args.nested c.args.room) c.args.n c.loop.counter c.loop.found c.args.self.now.trees c.loop.self c.loop-test.false c.loop.invariant
-
-pub values-returns-in_err-part-clause-err : goal.values-returns-in_err-part-clause-err
-values-returns-in_err-part-clause-err t c =
-    let p = err_from_is_err_and c.from_residual.result c.from_residual.ensures.1 in
-    rw (p.1, p.2) (values_failed c.in_err-part.field-0.0 (reading (values (part_in c.args.nested c.args.room) c.args.n) c.args.self.now) (part_in c.args.nested c.args.room) c.args.n c.loop.counter c.loop.found c.args.self.now.trees c.loop.self c.loop-test.true c.loop.invariant c.in_err-part.ensures.err)
-
-pub pairs-loop-init : goal.pairs-loop-init
-pairs-loop-init t c = pairs_begin (part_in c.args.nested c.args.room) c.args.n c.new-found.result c.new-keys.result c.args.self.now c.new-found.ensures c.new-keys.ensures
-
-pub pairs-loop-preserved : goal.pairs-loop-preserved
-pairs-loop-preserved t c =
-    let d : false ≡ key_in c.in_ok-built.built c.loop.keys = sym c.if-has_key.false ∙ c.has_key.ensures ∙ ap (key_in c.in_ok-built.built) c.as_slice.ensures in
-    rw (c.in_ok-push.ensures.ok, c.in_ok-push-2.ensures.ok)
-    (pairs_more (reading (pairs (part_in c.args.nested c.args.room) [] c.args.n) c.args.self.now) (part_in c.args.nested c.args.room) c.args.n c.loop.counter c.loop.found c.loop.keys c.args.self.now.trees c.loop.self c.value.new.self c.value-in-loop.new.self c.in_ok-built.built c.in_ok-key.key c.in_ok-held.held c.loop-test.true c.loop.invariant c.in_ok-key.ensures.ok c.in_ok-key.ensures.stands c.in_ok-built.ensures d c.in_ok-held.ensures.ok c.in_ok-held.ensures.stands)
-
-pub pairs-returns-then-has_key-clause-err : goal.pairs-returns-then-has_key-clause-err
-pairs-returns-then-has_key-clause-err t c =
-    let d : true ≡ key_in c.in_ok-built.built c.loop.keys = sym c.if-has_key.true ∙ c.has_key.ensures ∙ ap (key_in c.in_ok-built.built) c.as_slice.ensures in
-    rw (c.refuse.ensures, c.at-at.ensures)
-    (pairs_double (reading (pairs (part_in c.args.nested c.args.room) [] c.args.n) c.args.self.now) (part_in c.args.nested c.args.room) c.args.n c.loop.counter c.loop.found c.loop.keys c.args.self.now.trees c.loop.self c.value.new.self c.in_ok-built.built c.in_ok-key.key c.loop-test.true c.loop.invariant c.in_ok-key.ensures.ok c.in_ok-built.ensures d)
-
-pub pairs-returns-in_err-held-clause-err : goal.pairs-returns-in_err-held-clause-err
-pairs-returns-in_err-held-clause-err t c =
-    let d : false ≡ key_in c.in_ok-built.built c.loop.keys = sym c.if-has_key.false ∙ c.has_key.ensures ∙ ap (key_in c.in_ok-built.built) c.as_slice.ensures in
-    let p = err_from_is_err_and c.from_residual-in_err-held.result c.from_residual-in_err-held.ensures.1 in
-    rw (p.1, p.2)
-    (pairs_failed_value c.in_err-held.field-0.0 (reading (pairs (part_in c.args.nested c.args.room) [] c.args.n) c.args.self.now) (part_in c.args.nested c.args.room) c.args.n c.loop.counter c.loop.found c.loop.keys c.args.self.now.trees c.loop.self c.value.new.self c.in_ok-built.built c.in_ok-key.key c.loop-test.true c.loop.invariant c.in_ok-key.ensures.ok c.in_ok-built.ensures d c.in_err-held.ensures.err)
-
-pub pairs-returns-clause-ok : goal.pairs-returns-clause-ok
-pairs-returns-clause-ok t c = pairs_done (reading (pairs (part_in c.args.nested c.args.room) [] c.args.n) c.args.self.now) (part_in c.args.nested c.args.room) c.args.n c.loop.counter c.loop.found c.loop.keys c.args.self.now.trees c.loop.self c.loop-test.false c.loop.invariant
-
-pub fields-loop-init : goal.fields-loop-init
-fields-loop-init t c = fields_begin (part_in c.args.nested c.args.room) c.args.n c.new-found.result c.args.self.now c.new-found.ensures
-
-pub fields-loop-preserved : goal.fields-loop-preserved
-fields-loop-preserved t c =
-    let d : false ≡ has_name c.in_ok-name.name (fields_at c.loop.self.trees c.loop.found) = sym c.if-has_name.false ∙ c.has_name.ensures c.loop.self.trees ∙ ap (λ (n : List ℕ). has_name n (fields_at c.loop.self.trees c.as_slice-in-loop.result.now)) c.as_slice.ensures ∙ ap (λ (fs : List (List ℕ × ℕ)). has_name c.in_ok-name.name (fields_at c.loop.self.trees fs)) c.as_slice-in-loop.ensures in
-    rw c.in_ok-push.ensures.ok
-    (fields_more (reading (fields (part_in c.args.nested c.args.room) [] c.args.n) c.args.self.now) (part_in c.args.nested c.args.room) c.args.n c.loop.counter c.loop.found c.args.self.now.trees c.loop.self c.name.new.self c.value.new.self c.in_ok-name.name c.in_ok-part.part c.loop-test.true c.loop.invariant c.in_ok-name.ensures.ok c.in_ok-name.ensures.kept d c.in_ok-part.ensures.ok c.in_ok-part.ensures.stands)
-
-pub fields-returns-in_err-part-clause-err : goal.fields-returns-in_err-part-clause-err
-fields-returns-in_err-part-clause-err t c =
-    let d : false ≡ has_name c.in_ok-name.name (fields_at c.loop.self.trees c.loop.found) = sym c.if-has_name.false ∙ c.has_name.ensures c.loop.self.trees ∙ ap (λ (n : List ℕ). has_name n (fields_at c.loop.self.trees c.as_slice-in-loop.result.now)) c.as_slice.ensures ∙ ap (λ (fs : List (List ℕ × ℕ)). has_name c.in_ok-name.name (fields_at c.loop.self.trees fs)) c.as_slice-in-loop.ensures in
-    let p = err_from_is_err_and c.from_residual-in_err-part.result c.from_residual-in_err-part.ensures.1 in
-    rw (p.1, p.2)
-    (fields_failed_value c.in_err-part.field-0.0 (reading (fields (part_in c.args.nested c.args.room) [] c.args.n) c.args.self.now) (part_in c.args.nested c.args.room) c.args.n c.loop.counter c.loop.found c.args.self.now.trees c.loop.self c.name.new.self c.in_ok-name.name c.loop-test.true c.loop.invariant c.in_ok-name.ensures.ok d c.in_err-part.ensures.err)
-
-pub fields-returns-clause-ok : goal.fields-returns-clause-ok
-fields-returns-clause-ok t c = fields_done (reading (fields (part_in c.args.nested c.args.room) [] c.args.n) c.args.self.now) (part_in c.args.nested c.args.room) c.args.n c.loop.counter c.loop.found c.args.self.now.trees c.loop.self c.loop-test.false c.loop.invariant
-
-pub default_value-returns-clause-same : goal.default_value-returns-clause-same
-default_value-returns-clause-same t c =
-    IfOk-weaker c.value.result (λ (i : ℕ). Stands i c.args.self.now.trees c.value.new.self.trees) (λ (i : ℕ). pairs_at c.value.new.self.trees c.args.pairs.now ≡ pairs_at c.args.self.now.trees c.args.pairs.now)
-    (λ i st. pairs_at-grown c.args.self.now.trees c.value.new.self.trees c.args.pairs.now st.grows c.requires.below) c.value.ensures.stands
+    values_more (reading (values (part_in c.args.nested c.args.room) c.args.n) c.args.self.now) (part_in c.args.nested c.args.room) c.args.n c.loop.counter c.args.self.now.steps c.loop.self c.value.new.self c.loop-test.true c.loop.invariant c.in_ok-value.ensures.ok c.in_ok-value.ensures.adds
 
 pub value-returns-in_err-first-clause-err : goal.value-returns-in_err-first-clause-err
 value-returns-in_err-first-clause-err t c =
@@ -97,8 +46,9 @@ value-returns-in_default-clause-err t c =
 pub value-returns-then-room-eq0-clause-ok : goal.value-returns-then-room-eq0-clause-ok
 value-returns-then-room-eq0-clause-ok t c =
     let e = closed c.args.nested c.args.room c.in_ok-first.first c.in-Some.kind c.at-at.result c.args.self.now c.byte.new.self c.if-room-eq0.true c.at-at.ensures c.in_ok-first.ensures.ok (sym c.in-Some.is ∙ c.kind_of.ensures) in
-    let P : Read Tree → Type 0 = λ q. IfOk c.too_deep.result (λ i. q ≡ Ok (tree_in c.too_deep.new.self.trees i, c.too_deep.new.self.seen, c.too_deep.new.self.rest)) in
-    subst P (sym e) c.too_deep.ensures.ok
+    let P : Read Tree → Type 0 = λ q. OnOk c.too_deep.result (q ≡ Ok (added c.byte.new.self.steps c.too_deep.new.self.steps, c.too_deep.new.self.seen, c.too_deep.new.self.rest)) in
+    let Q : List Step → Type 0 = λ ss. OnOk c.too_deep.result (reading (part_in c.args.nested c.args.room) c.args.self.now ≡ Ok (added ss c.too_deep.new.self.steps, c.too_deep.new.self.seen, c.too_deep.new.self.rest)) in
+    subst Q c.in_ok-first.ensures.kept (subst P (sym e) c.too_deep.ensures.ok)
 
 pub value-returns-then-room-eq0-clause-err : goal.value-returns-then-room-eq0-clause-err
 value-returns-then-room-eq0-clause-err t c =
@@ -109,8 +59,9 @@ value-returns-then-room-eq0-clause-err t c =
 pub value-returns-clause-ok : goal.value-returns-clause-ok
 value-returns-clause-ok t c =
     let e = opened c.args.nested c.args.room c.in_ok-first.first c.in-Some.kind c.at-at.result c.args.self.now c.byte.new.self c.if-room-eq0.false c.at-at.ensures c.in_ok-first.ensures.ok (sym c.in-Some.is ∙ c.kind_of.ensures) in
-    let P : Read Tree → Type 0 = λ q. IfOk c.body.result (λ i. q ≡ Ok (tree_in c.body.new.self.trees i, c.body.new.self.seen, c.body.new.self.rest)) in
-    subst P (sym e) c.body.ensures.ok
+    let P : Read Tree → Type 0 = λ q. OnOk c.body.result (q ≡ Ok (added c.byte.new.self.steps c.body.new.self.steps, c.body.new.self.seen, c.body.new.self.rest)) in
+    let Q : List Step → Type 0 = λ ss. OnOk c.body.result (reading (part_in c.args.nested c.args.room) c.args.self.now ≡ Ok (added ss c.body.new.self.steps, c.body.new.self.seen, c.body.new.self.rest)) in
+    subst Q c.in_ok-first.ensures.kept (subst P (sym e) c.body.ensures.ok)
 
 pub value-returns-clause-err : goal.value-returns-clause-err
 value-returns-clause-err t c =
@@ -118,25 +69,200 @@ value-returns-clause-err t c =
     let P : Read Tree → Type 0 = λ q. IfErr c.body.result (λ x. Fails x q) in
     subst P (sym e) c.body.ensures.err
 
+pub list_value-end-requires-clause-makes : goal.list_value-end-requires-clause-makes
+list_value-end-requires-clause-makes t c =
+    close_makes c.begin_object.new.self.steps c.values.new.self.steps c.in_ok-begun.begun.start (S.List c.in_ok-n.n) (list (values_in c.begin_object.new.self.steps c.values.new.self.steps)) (c.in_ok-begun.ensures.start ∙ ap length (steps_of c.count_nodes.new.self c.begin_object.new.self c.in_ok-begun.ensures.state))
+    (list_ends (since c.begin_object.new.self.steps c.values.new.self.steps) c.in_ok-n.n c.in_ok-values.ensures.adds.holds)
+
+pub list_value-returns-clause-ok : goal.list_value-returns-clause-ok
+list_value-returns-clause-ok t c =
+    list_read (part_in c.args.nested c.args.room) c.args.at c.in_ok-n.n c.in_ok-begun.begun.number (values_in c.begin_object.new.self.steps c.values.new.self.steps) (Ok (added c.args.self.now.steps c.end.new.self.steps, c.end.new.self.seen, c.end.new.self.rest))
+    c.args.self.now c.count.new.self c.count_nodes.new.self c.begin_object.new.self c.values.new.self
+    c.in_ok-n.ensures.ok c.in_ok-count_nodes.ensures.ok c.in_ok-begun.ensures.state c.in_ok-begun.ensures.number c.in_ok-values.ensures.ok
+    (close_read c.in_ok-begun.begun.number c.in_ok-begun.begun.start c.args.self.now c.begin_object.new.self c.values.new.self c.end.new.self (S.List c.in_ok-n.n) (list (values_in c.begin_object.new.self.steps c.values.new.self.steps))
+    (sym (c.in_ok-count_nodes.ensures.kept ∙ c.in_ok-n.ensures.kept) ∙ steps_of c.count_nodes.new.self c.begin_object.new.self c.in_ok-begun.ensures.state) (c.in_ok-begun.ensures.start ∙ ap length (steps_of c.count_nodes.new.self c.begin_object.new.self c.in_ok-begun.ensures.state)) c.in_ok-values.ensures.adds.extends c.in_ok-end.ensures.steps
+    (list_ends (since c.begin_object.new.self.steps c.values.new.self.steps) c.in_ok-n.n c.in_ok-values.ensures.adds.holds) c.in_ok-end.ensures.ok)
+
+pub list_value-returns-clause-adds : goal.list_value-returns-clause-adds
+list_value-returns-clause-adds t c =
+    close_adds c.args.self.now.steps c.begin_object.new.self.steps c.values.new.self.steps c.end.new.self.steps (S.List c.in_ok-n.n) (list (values_in c.begin_object.new.self.steps c.values.new.self.steps))
+    (sym (c.in_ok-count_nodes.ensures.kept ∙ c.in_ok-n.ensures.kept) ∙ steps_of c.count_nodes.new.self c.begin_object.new.self c.in_ok-begun.ensures.state) c.in_ok-values.ensures.adds.extends c.in_ok-end.ensures.steps
+    (list_ends (since c.begin_object.new.self.steps c.values.new.self.steps) c.in_ok-n.n c.in_ok-values.ensures.adds.holds)
+
+pub hash_value-end-requires-clause-makes : goal.hash_value-end-requires-clause-makes
+hash_value-end-requires-clause-makes t c =
+    close_makes c.begin_object.new.self.steps c.pairs.new.self.steps c.in_ok-begun.begun.start (S.Hash c.in_ok-n.n) (hash (pairs_in c.begin_object.new.self.steps c.pairs.new.self.steps) None) (c.in_ok-begun.ensures.start ∙ ap length (steps_of c.count_nodes.new.self c.begin_object.new.self c.in_ok-begun.ensures.state))
+    (hash_ends (since c.begin_object.new.self.steps c.pairs.new.self.steps) c.in_ok-n.n c.in_ok-pairs.ensures.adds.holds)
+
+pub hash_value-returns-clause-ok : goal.hash_value-returns-clause-ok
+hash_value-returns-clause-ok t c =
+    hash_read (part_in c.args.nested c.args.room) c.args.at c.in_ok-n.n c.in_ok-begun.begun.number (pairs_in c.begin_object.new.self.steps c.pairs.new.self.steps) (Ok (added c.args.self.now.steps c.end.new.self.steps, c.end.new.self.seen, c.end.new.self.rest))
+    c.args.self.now c.pair_count.new.self c.count_nodes.new.self c.begin_object.new.self c.pairs.new.self
+    c.in_ok-n.ensures.ok c.in_ok-count_nodes.ensures.ok c.in_ok-begun.ensures.state c.in_ok-begun.ensures.number c.in_ok-pairs.ensures.ok
+    (close_read c.in_ok-begun.begun.number c.in_ok-begun.begun.start c.args.self.now c.begin_object.new.self c.pairs.new.self c.end.new.self (S.Hash c.in_ok-n.n) (hash (pairs_in c.begin_object.new.self.steps c.pairs.new.self.steps) None)
+    (sym (c.in_ok-count_nodes.ensures.kept ∙ c.in_ok-n.ensures.kept) ∙ steps_of c.count_nodes.new.self c.begin_object.new.self c.in_ok-begun.ensures.state) (c.in_ok-begun.ensures.start ∙ ap length (steps_of c.count_nodes.new.self c.begin_object.new.self c.in_ok-begun.ensures.state)) c.in_ok-pairs.ensures.adds.extends c.in_ok-end.ensures.steps
+    (hash_ends (since c.begin_object.new.self.steps c.pairs.new.self.steps) c.in_ok-n.n c.in_ok-pairs.ensures.adds.holds) c.in_ok-end.ensures.ok)
+
+pub hash_value-returns-clause-adds : goal.hash_value-returns-clause-adds
+hash_value-returns-clause-adds t c =
+    close_adds c.args.self.now.steps c.begin_object.new.self.steps c.pairs.new.self.steps c.end.new.self.steps (S.Hash c.in_ok-n.n) (hash (pairs_in c.begin_object.new.self.steps c.pairs.new.self.steps) None)
+    (sym (c.in_ok-count_nodes.ensures.kept ∙ c.in_ok-n.ensures.kept) ∙ steps_of c.count_nodes.new.self c.begin_object.new.self c.in_ok-begun.ensures.state) c.in_ok-pairs.ensures.adds.extends c.in_ok-end.ensures.steps
+    (hash_ends (since c.begin_object.new.self.steps c.pairs.new.self.steps) c.in_ok-n.n c.in_ok-pairs.ensures.adds.holds)
+
+pub default_hash_value-end-requires-clause-makes : goal.default_hash_value-end-requires-clause-makes
+default_hash_value-end-requires-clause-makes t c =
+    close_makes c.begin_object.new.self.steps c.value.new.self.steps c.in_ok-begun.begun.start (S.HashWithDefault c.in_ok-n.n) (hash (pairs_in c.begin_object.new.self.steps c.pairs.new.self.steps) (Some (added c.pairs.new.self.steps c.value.new.self.steps))) (c.in_ok-begun.ensures.start ∙ ap length (steps_of c.count_nodes.new.self c.begin_object.new.self c.in_ok-begun.ensures.state))
+    (default_ends c.begin_object.new.self.steps c.pairs.new.self.steps c.value.new.self.steps c.in_ok-n.n c.in_ok-pairs.ensures.adds c.in_ok-value.ensures.adds)
+
+pub default_hash_value-returns-clause-ok : goal.default_hash_value-returns-clause-ok
+default_hash_value-returns-clause-ok t c =
+    default_hash_read (part_in c.args.nested c.args.room) c.args.at c.in_ok-n.n c.in_ok-begun.begun.number (pairs_in c.begin_object.new.self.steps c.pairs.new.self.steps) (added c.pairs.new.self.steps c.value.new.self.steps) (Ok (added c.args.self.now.steps c.end.new.self.steps, c.end.new.self.seen, c.end.new.self.rest))
+    c.args.self.now c.pair_count.new.self c.count_nodes.new.self c.begin_object.new.self c.pairs.new.self c.value.new.self
+    c.in_ok-n.ensures.ok c.in_ok-count_nodes.ensures.ok c.in_ok-begun.ensures.state c.in_ok-begun.ensures.number c.in_ok-pairs.ensures.ok c.in_ok-value.ensures.ok
+    (close_read c.in_ok-begun.begun.number c.in_ok-begun.begun.start c.args.self.now c.begin_object.new.self c.value.new.self c.end.new.self (S.HashWithDefault c.in_ok-n.n) (hash (pairs_in c.begin_object.new.self.steps c.pairs.new.self.steps) (Some (added c.pairs.new.self.steps c.value.new.self.steps)))
+    (sym (c.in_ok-count_nodes.ensures.kept ∙ c.in_ok-n.ensures.kept) ∙ steps_of c.count_nodes.new.self c.begin_object.new.self c.in_ok-begun.ensures.state) (c.in_ok-begun.ensures.start ∙ ap length (steps_of c.count_nodes.new.self c.begin_object.new.self c.in_ok-begun.ensures.state)) (extends_then c.begin_object.new.self.steps c.pairs.new.self.steps c.value.new.self.steps c.in_ok-pairs.ensures.adds.extends c.in_ok-value.ensures.adds.extends) c.in_ok-end.ensures.steps
+    (default_ends c.begin_object.new.self.steps c.pairs.new.self.steps c.value.new.self.steps c.in_ok-n.n c.in_ok-pairs.ensures.adds c.in_ok-value.ensures.adds) c.in_ok-end.ensures.ok)
+
+pub default_hash_value-returns-clause-adds : goal.default_hash_value-returns-clause-adds
+default_hash_value-returns-clause-adds t c =
+    close_adds c.args.self.now.steps c.begin_object.new.self.steps c.value.new.self.steps c.end.new.self.steps (S.HashWithDefault c.in_ok-n.n) (hash (pairs_in c.begin_object.new.self.steps c.pairs.new.self.steps) (Some (added c.pairs.new.self.steps c.value.new.self.steps)))
+    (sym (c.in_ok-count_nodes.ensures.kept ∙ c.in_ok-n.ensures.kept) ∙ steps_of c.count_nodes.new.self c.begin_object.new.self c.in_ok-begun.ensures.state) (extends_then c.begin_object.new.self.steps c.pairs.new.self.steps c.value.new.self.steps c.in_ok-pairs.ensures.adds.extends c.in_ok-value.ensures.adds.extends) c.in_ok-end.ensures.steps
+    (default_ends c.begin_object.new.self.steps c.pairs.new.self.steps c.value.new.self.steps c.in_ok-n.n c.in_ok-pairs.ensures.adds c.in_ok-value.ensures.adds)
+
+pub fields_value-end-requires-clause-makes : goal.fields_value-end-requires-clause-makes
+fields_value-end-requires-clause-makes t c =
+    close_makes c.begin_object.new.self.steps c.fields.new.self.steps c.in_ok-begun.begun.start (S.Struct c.of-class.result c.in_ok-n.n) (structure c.of-class.result (fields_in c.begin_object.new.self.steps c.fields.new.self.steps)) (c.in_ok-begun.ensures.start ∙ ap length (steps_of c.count_nodes.new.self c.begin_object.new.self c.in_ok-begun.ensures.state))
+    (struct_ends (since c.begin_object.new.self.steps c.fields.new.self.steps) c.of-class.result c.in_ok-n.n c.in_ok-fields.ensures.adds.holds)
+
+pub fields_value-returns-then-is_struct-clause-ok : goal.fields_value-returns-then-is_struct-clause-ok
+fields_value-returns-then-is_struct-clause-ok t c =
+    let cls = c.in_ok-name.ensures.ok ∙ ap (λ (z : List ℕ). Ok (z, c.name.new.self.seen, c.name.new.self.rest)) (sym c.of-class.ensures) in
+    let r : Read Tree = Ok (added c.args.self.now.steps c.end.new.self.steps, c.end.new.self.seen, c.end.new.self.rest) in
+    let whole : reading (V.fields_value (fields_form true) (part_in c.args.nested c.args.room) c.args.at) c.args.self.now ≡ r =
+    fields_read true (part_in c.args.nested c.args.room) c.args.at c.in_ok-n.n c.in_ok-begun.begun.number c.of-class.result (fields_in c.begin_object.new.self.steps c.fields.new.self.steps) r
+    c.args.self.now c.name.new.self c.pair_count.new.self c.count_nodes.new.self c.begin_object.new.self c.fields.new.self
+    cls c.in_ok-n.ensures.ok c.in_ok-count_nodes.ensures.ok c.in_ok-begun.ensures.state c.in_ok-begun.ensures.number c.in_ok-fields.ensures.ok
+    (close_read c.in_ok-begun.begun.number c.in_ok-begun.begun.start c.args.self.now c.begin_object.new.self c.fields.new.self c.end.new.self (S.Struct c.of-class.result c.in_ok-n.n) (structure c.of-class.result (fields_in c.begin_object.new.self.steps c.fields.new.self.steps))
+    (sym (c.in_ok-count_nodes.ensures.kept ∙ c.in_ok-n.ensures.kept ∙ c.in_ok-name.ensures.kept) ∙ steps_of c.count_nodes.new.self c.begin_object.new.self c.in_ok-begun.ensures.state) (c.in_ok-begun.ensures.start ∙ ap length (steps_of c.count_nodes.new.self c.begin_object.new.self c.in_ok-begun.ensures.state)) c.in_ok-fields.ensures.adds.extends c.in_ok-end.ensures.steps
+    (struct_ends (since c.begin_object.new.self.steps c.fields.new.self.steps) c.of-class.result c.in_ok-n.n c.in_ok-fields.ensures.adds.holds) c.in_ok-end.ensures.ok) in
+    subst (λ (b : Bool). reading (V.fields_value (fields_form b) (part_in c.args.nested c.args.room) c.args.at) c.args.self.now ≡ r) (sym c.if-is_struct.true) whole
+
+pub fields_value-returns-then-is_struct-clause-adds : goal.fields_value-returns-then-is_struct-clause-adds
+fields_value-returns-then-is_struct-clause-adds t c =
+    close_adds c.args.self.now.steps c.begin_object.new.self.steps c.fields.new.self.steps c.end.new.self.steps (S.Struct c.of-class.result c.in_ok-n.n) (structure c.of-class.result (fields_in c.begin_object.new.self.steps c.fields.new.self.steps))
+    (sym (c.in_ok-count_nodes.ensures.kept ∙ c.in_ok-n.ensures.kept ∙ c.in_ok-name.ensures.kept) ∙ steps_of c.count_nodes.new.self c.begin_object.new.self c.in_ok-begun.ensures.state) c.in_ok-fields.ensures.adds.extends c.in_ok-end.ensures.steps
+    (struct_ends (since c.begin_object.new.self.steps c.fields.new.self.steps) c.of-class.result c.in_ok-n.n c.in_ok-fields.ensures.adds.holds)
+
+pub fields_value-end-requires-2-clause-makes : goal.fields_value-end-requires-2-clause-makes
+fields_value-end-requires-2-clause-makes t c =
+    close_makes c.begin_object.new.self.steps c.fields.new.self.steps c.in_ok-begun.begun.start (S.Object c.of-class.result c.in_ok-n.n) (object c.of-class.result (fields_in c.begin_object.new.self.steps c.fields.new.self.steps)) (c.in_ok-begun.ensures.start ∙ ap length (steps_of c.count_nodes.new.self c.begin_object.new.self c.in_ok-begun.ensures.state))
+    (object_ends (since c.begin_object.new.self.steps c.fields.new.self.steps) c.of-class.result c.in_ok-n.n c.in_ok-fields.ensures.adds.holds)
+
+pub fields_value-returns-clause-ok : goal.fields_value-returns-clause-ok
+fields_value-returns-clause-ok t c =
+    let cls = c.in_ok-name.ensures.ok ∙ ap (λ (z : List ℕ). Ok (z, c.name.new.self.seen, c.name.new.self.rest)) (sym c.of-class.ensures) in
+    let r : Read Tree = Ok (added c.args.self.now.steps c.end-2.new.self.steps, c.end-2.new.self.seen, c.end-2.new.self.rest) in
+    let whole : reading (V.fields_value (fields_form false) (part_in c.args.nested c.args.room) c.args.at) c.args.self.now ≡ r =
+    fields_read false (part_in c.args.nested c.args.room) c.args.at c.in_ok-n.n c.in_ok-begun.begun.number c.of-class.result (fields_in c.begin_object.new.self.steps c.fields.new.self.steps) r
+    c.args.self.now c.name.new.self c.pair_count.new.self c.count_nodes.new.self c.begin_object.new.self c.fields.new.self
+    cls c.in_ok-n.ensures.ok c.in_ok-count_nodes.ensures.ok c.in_ok-begun.ensures.state c.in_ok-begun.ensures.number c.in_ok-fields.ensures.ok
+    (close_read c.in_ok-begun.begun.number c.in_ok-begun.begun.start c.args.self.now c.begin_object.new.self c.fields.new.self c.end-2.new.self (S.Object c.of-class.result c.in_ok-n.n) (object c.of-class.result (fields_in c.begin_object.new.self.steps c.fields.new.self.steps))
+    (sym (c.in_ok-count_nodes.ensures.kept ∙ c.in_ok-n.ensures.kept ∙ c.in_ok-name.ensures.kept) ∙ steps_of c.count_nodes.new.self c.begin_object.new.self c.in_ok-begun.ensures.state) (c.in_ok-begun.ensures.start ∙ ap length (steps_of c.count_nodes.new.self c.begin_object.new.self c.in_ok-begun.ensures.state)) c.in_ok-fields.ensures.adds.extends c.in_ok-end-2.ensures.steps
+    (object_ends (since c.begin_object.new.self.steps c.fields.new.self.steps) c.of-class.result c.in_ok-n.n c.in_ok-fields.ensures.adds.holds) c.in_ok-end-2.ensures.ok) in
+    subst (λ (b : Bool). reading (V.fields_value (fields_form b) (part_in c.args.nested c.args.room) c.args.at) c.args.self.now ≡ r) (sym c.if-is_struct.false) whole
+
+pub fields_value-returns-clause-adds : goal.fields_value-returns-clause-adds
+fields_value-returns-clause-adds t c =
+    close_adds c.args.self.now.steps c.begin_object.new.self.steps c.fields.new.self.steps c.end-2.new.self.steps (S.Object c.of-class.result c.in_ok-n.n) (object c.of-class.result (fields_in c.begin_object.new.self.steps c.fields.new.self.steps))
+    (sym (c.in_ok-count_nodes.ensures.kept ∙ c.in_ok-n.ensures.kept ∙ c.in_ok-name.ensures.kept) ∙ steps_of c.count_nodes.new.self c.begin_object.new.self c.in_ok-begun.ensures.state) c.in_ok-fields.ensures.adds.extends c.in_ok-end-2.ensures.steps
+    (object_ends (since c.begin_object.new.self.steps c.fields.new.self.steps) c.of-class.result c.in_ok-n.n c.in_ok-fields.ensures.adds.holds)
+
+pub wrapped_value-end-requires-clause-makes : goal.wrapped_value-end-requires-clause-makes
+wrapped_value-end-requires-clause-makes t c =
+    close_makes c.begin_object.new.self.steps c.value.new.self.steps c.in_ok-begun.begun.start (S.Wrapped c.of-class.result) (wrapped c.of-class.result (added c.begin_object.new.self.steps c.value.new.self.steps)) (c.in_ok-begun.ensures.start ∙ ap length (steps_of c.count_nodes.new.self c.begin_object.new.self c.in_ok-begun.ensures.state))
+    (wrapped_ends (since c.begin_object.new.self.steps c.value.new.self.steps) c.of-class.result c.in_ok-value.ensures.adds.makes)
+
+pub wrapped_value-returns-clause-ok : goal.wrapped_value-returns-clause-ok
+wrapped_value-returns-clause-ok t c =
+    let cls = c.in_ok-name.ensures.ok ∙ ap (λ (z : List ℕ). Ok (z, c.name.new.self.seen, c.name.new.self.rest)) (sym c.of-class.ensures) in
+    wrapped_read (part_in c.args.nested c.args.room) c.args.at c.in_ok-begun.begun.number c.of-class.result (added c.begin_object.new.self.steps c.value.new.self.steps) (Ok (added c.args.self.now.steps c.end.new.self.steps, c.end.new.self.seen, c.end.new.self.rest))
+    c.args.self.now c.name.new.self c.count_nodes.new.self c.begin_object.new.self c.value.new.self
+    cls c.in_ok-count_nodes.ensures.ok c.in_ok-begun.ensures.state c.in_ok-begun.ensures.number c.in_ok-value.ensures.ok
+    (close_read c.in_ok-begun.begun.number c.in_ok-begun.begun.start c.args.self.now c.begin_object.new.self c.value.new.self c.end.new.self (S.Wrapped c.of-class.result) (wrapped c.of-class.result (added c.begin_object.new.self.steps c.value.new.self.steps))
+    (sym (c.in_ok-count_nodes.ensures.kept ∙ c.in_ok-name.ensures.kept) ∙ steps_of c.count_nodes.new.self c.begin_object.new.self c.in_ok-begun.ensures.state) (c.in_ok-begun.ensures.start ∙ ap length (steps_of c.count_nodes.new.self c.begin_object.new.self c.in_ok-begun.ensures.state)) c.in_ok-value.ensures.adds.extends c.in_ok-end.ensures.steps
+    (wrapped_ends (since c.begin_object.new.self.steps c.value.new.self.steps) c.of-class.result c.in_ok-value.ensures.adds.makes) c.in_ok-end.ensures.ok)
+
+pub wrapped_value-returns-clause-adds : goal.wrapped_value-returns-clause-adds
+wrapped_value-returns-clause-adds t c =
+    close_adds c.args.self.now.steps c.begin_object.new.self.steps c.value.new.self.steps c.end.new.self.steps (S.Wrapped c.of-class.result) (wrapped c.of-class.result (added c.begin_object.new.self.steps c.value.new.self.steps))
+    (sym (c.in_ok-count_nodes.ensures.kept ∙ c.in_ok-name.ensures.kept) ∙ steps_of c.count_nodes.new.self c.begin_object.new.self c.in_ok-begun.ensures.state) c.in_ok-value.ensures.adds.extends c.in_ok-end.ensures.steps
+    (wrapped_ends (since c.begin_object.new.self.steps c.value.new.self.steps) c.of-class.result c.in_ok-value.ensures.adds.makes)
+
+pub marked_dumped-returns-clause-adds : goal.marked_dumped-returns-clause-adds
+marked_dumped-returns-clause-adds t c =
+    close_adds c.args.self.now.steps c.count_nodes.new.self.steps c.fields.new.self.steps c.held_value.new.self.steps (held_step c.in_ok-held.held c.in_ok-variables.variables)
+    (V.held_value (held_is c.in_ok-held.held) (fields_in c.count_nodes.new.self.steps c.fields.new.self.steps))
+    (sym (c.in_ok-count_nodes.ensures.kept ∙ c.in_ok-variables.ensures.kept ∙ c.in_ok-held.ensures.kept)) c.in_ok-fields.ensures.adds.extends c.in_ok-held_value.ensures.steps
+    (held_ends c.in_ok-held.held (since c.count_nodes.new.self.steps c.fields.new.self.steps) c.in_ok-variables.variables c.in_ok-held.ensures.foreign c.in_ok-fields.ensures.adds.holds)
+
+pub pairs-loop-init : goal.pairs-loop-init
+pairs-loop-init t c = pairs_begin (part_in c.args.nested c.args.room) c.args.n c.new-keys.result c.args.self.now c.new-keys.ensures
+
+pub pairs-loop-preserved : goal.pairs-loop-preserved
+pairs-loop-preserved t c =
+    let d : false ≡ key_in c.in_ok-key.key c.loop.keys = sym c.if-has_key.false ∙ c.has_key.ensures ∙ ap (key_in c.in_ok-key.key) c.as_slice.ensures in
+    rw c.in_ok-push.ensures.ok
+    (pairs_more (reading (pairs (part_in c.args.nested c.args.room) [] c.args.n) c.args.self.now) (part_in c.args.nested c.args.room) c.args.n c.loop.counter c.loop.keys c.args.self.now.steps c.loop.self c.value.new.self c.value-in-loop.new.self c.push-in-loop.new.self c.in_ok-key.key c.loop-test.true c.loop.invariant
+    c.in_ok-value.ensures.ok c.in_ok-value.ensures.adds (c.in_ok-key.ensures ∙ ap (λ (i : ℕ). value_of (drop i c.value.new.self.steps)) c.count_steps-start.ensures) d c.in_ok-value-2.ensures.ok c.in_ok-value-2.ensures.adds c.in_ok-push-2.ensures)
+
+pub pairs-returns-then-has_key-clause-err : goal.pairs-returns-then-has_key-clause-err
+pairs-returns-then-has_key-clause-err t c =
+    let d : true ≡ key_in c.in_ok-key.key c.loop.keys = sym c.if-has_key.true ∙ c.has_key.ensures ∙ ap (key_in c.in_ok-key.key) c.as_slice.ensures in
+    rw (c.refuse.ensures, c.at-at.ensures)
+    (pairs_double (reading (pairs (part_in c.args.nested c.args.room) [] c.args.n) c.args.self.now) (part_in c.args.nested c.args.room) c.args.n c.loop.counter c.loop.keys c.args.self.now.steps c.loop.self c.value.new.self c.in_ok-key.key c.loop-test.true c.loop.invariant c.in_ok-value.ensures.ok (c.in_ok-key.ensures ∙ ap (λ (i : ℕ). value_of (drop i c.value.new.self.steps)) c.count_steps-start.ensures) d)
+
+pub pairs-returns-in_err-value-2-clause-err : goal.pairs-returns-in_err-value-2-clause-err
+pairs-returns-in_err-value-2-clause-err t c =
+    let d : false ≡ key_in c.in_ok-key.key c.loop.keys = sym c.if-has_key.false ∙ c.has_key.ensures ∙ ap (key_in c.in_ok-key.key) c.as_slice.ensures in
+    let p = err_from_is_err_and c.from_residual-in_err-value-2.result c.from_residual-in_err-value-2.ensures.1 in
+    rw (p.1, p.2)
+    (pairs_failed_value c.in_err-value-2.field-0.0 (reading (pairs (part_in c.args.nested c.args.room) [] c.args.n) c.args.self.now) (part_in c.args.nested c.args.room) c.args.n c.loop.counter c.loop.keys c.args.self.now.steps c.loop.self c.value.new.self c.in_ok-key.key c.loop-test.true c.loop.invariant c.in_ok-value.ensures.ok (c.in_ok-key.ensures ∙ ap (λ (i : ℕ). value_of (drop i c.value.new.self.steps)) c.count_steps-start.ensures) d c.in_err-value-2.ensures.err)
+
+pub fields-loop-preserved : goal.fields-loop-preserved
+fields-loop-preserved t c =
+    let d : false ≡ name_in c.in_ok-name.name.now c.loop.names = sym c.if-has_name.false ∙ c.has_name.ensures ∙ ap (name_in c.in_ok-name.name.now) c.as_slice.ensures in
+    rw (c.in_ok-push.ensures.ok, c.of.ensures)
+    (fields_more (reading (fields (part_in c.args.nested c.args.room) [] c.args.n) c.args.self.now) (part_in c.args.nested c.args.room) c.args.n c.loop.counter c.loop.names c.args.self.now.steps c.loop.self c.name.new.self c.value.new.self c.push-in-loop.new.self c.in_ok-name.name.now c.loop-test.true c.loop.invariant
+    c.in_ok-name.ensures.ok c.in_ok-name.ensures.kept d c.in_ok-value.ensures.ok c.in_ok-value.ensures.adds (c.in_ok-push-2.ensures ∙ ap (λ (z : List ℕ). record c.value.new.self { steps = c.value.new.self.steps ++ (S.Field z ∷ []) }) c.of-in-loop.ensures))
+
+pub fields-returns-then-has_name-clause-err : goal.fields-returns-then-has_name-clause-err
+fields-returns-then-has_name-clause-err t c =
+    let d : true ≡ name_in c.in_ok-name.name.now c.loop.names = sym c.if-has_name.true ∙ c.has_name.ensures ∙ ap (name_in c.in_ok-name.name.now) c.as_slice.ensures in
+    rw (c.refuse.ensures, c.at-at.ensures)
+    (fields_double (reading (fields (part_in c.args.nested c.args.room) [] c.args.n) c.args.self.now) (part_in c.args.nested c.args.room) c.args.n c.loop.counter c.loop.names c.args.self.now.steps c.loop.self c.name.new.self c.in_ok-name.name.now c.loop-test.true c.loop.invariant c.in_ok-name.ensures.ok d)
+
+pub fields-returns-in_err-value-clause-err : goal.fields-returns-in_err-value-clause-err
+fields-returns-in_err-value-clause-err t c =
+    let d : false ≡ name_in c.in_ok-name.name.now c.loop.names = sym c.if-has_name.false ∙ c.has_name.ensures ∙ ap (name_in c.in_ok-name.name.now) c.as_slice.ensures in
+    let p = err_from_is_err_and c.from_residual-in_err-value.result c.from_residual-in_err-value.ensures.1 in
+    rw (p.1, p.2)
+    (fields_failed_value c.in_err-value.field-0.0 (reading (fields (part_in c.args.nested c.args.room) [] c.args.n) c.args.self.now) (part_in c.args.nested c.args.room) c.args.n c.loop.counter c.loop.names c.args.self.now.steps c.loop.self c.name.new.self c.in_ok-name.name.now c.loop-test.true c.loop.invariant c.in_ok-name.ensures.ok d c.in_err-value.ensures.err)
+
 pub remote_in-returns-in-Ok : goal.remote_in-returns-in-Ok
 remote_in-returns-in-Ok t c =
-    let s : read (dump_with (reference_in true)) opening c.args.bytes.now ≡ Ok (tree_in c.dump_with.new.self.trees c.in-Ok.index, c.dump_with.new.self.seen, c.dump_with.new.self.rest) =
-    ap (λ (z : State). reading (dump_with (reference_in true)) z) (sym c.new-inner.ensures) ∙ c.in-Ok.ensures.ok in
-    IfOk-weaker c.remote.result (λ (r : Option Remote). r ≡ remote_of (out-Tree (tree_in c.dump_with.new.self.trees c.in-Ok.index))) (λ (r : Option Remote). r ≡ given (read (reference_in c.args.nested) opening c.args.bytes.now))
-    (λ r e. e ∙ given_ok c.args.nested c.args.bytes.now c.dump_with.new.self.rest (tree_in c.dump_with.new.self.trees c.in-Ok.index) c.dump_with.new.self.seen c.if-nested.false s)
+    let e : c.in_ok-inner.inner.steps ≡ [] = ap (λ (z : State). z.steps) c.in_ok-inner.ensures in
+    let s : read (dump_with (reference_in true)) opening c.args.bytes.now ≡ Ok (value_of c.dump_with.new.self.steps, c.dump_with.new.self.seen, c.dump_with.new.self.rest) =
+    ap (λ (z : State). reading (dump_with (reference_in true)) z) (sym c.in_ok-inner.ensures)
+    ∙ c.in-Ok.ensures.ok
+    ∙ ap (λ (ss : List Step). Ok (added ss c.dump_with.new.self.steps, c.dump_with.new.self.seen, c.dump_with.new.self.rest)) e in
+    IfOk-weaker c.remote.result (λ (r : Option Remote). r ≡ remote_of (out-Tree (value_of c.dump_with.new.self.steps))) (λ (r : Option Remote). r ≡ given (read (reference_in c.args.nested) opening c.args.bytes.now))
+    (λ r x. x ∙ given_ok c.args.nested c.args.bytes.now c.dump_with.new.self.rest (value_of c.dump_with.new.self.steps) c.dump_with.new.self.seen c.if-nested.false s)
     c.remote.ensures
 
 pub remote_in-returns : goal.remote_in-returns
 remote_in-returns t c =
-    let F : ReadError → Type 0 = λ e. Fails e (reading (dump_with (reference_in true)) c.new-inner.result) in
-    let h : reading (dump_with (reference_in true)) c.new-inner.result ≡ Err c.in-Err-Refused._refusal = subst F c.in-Err-Refused.field-0-is c.in-Err-Refused.ensures.err in
+    let F : ReadError → Type 0 = λ e. Fails e (reading (dump_with (reference_in true)) c.in_ok-inner.inner) in
+    let h : reading (dump_with (reference_in true)) c.in_ok-inner.inner ≡ Err c.in-Err-Refused._refusal = subst F c.in-Err-Refused.field-0-is c.in-Err-Refused.ensures.err in
     let s : read (dump_with (reference_in true)) opening c.args.bytes.now ≡ Err c.in-Err-Refused._refusal =
-    ap (λ (z : State). reading (dump_with (reference_in true)) z) (sym c.new-inner.ensures) ∙ h in
+    ap (λ (z : State). reading (dump_with (reference_in true)) z) (sym c.in_ok-inner.ensures) ∙ h in
     given_err c.args.nested c.args.bytes.now c.in-Err-Refused._refusal c.if-nested.false s
-
-pub default_hash_value-returns-clause-ok : goal.default_hash_value-returns-clause-ok
-default_hash_value-returns-clause-ok t c =
-    default_hash_ok (part_in c.args.nested c.args.room) c.args.at c.in_ok-n.n c.in_ok-number.number
-    (pairs_at c.pairs.new.self.trees c.in_ok-parts.parts) (pairs_at c.default_value.new.self.trees c.in_ok-parts.parts) (tree_in c.default_value.new.self.trees c.in_ok-default.default)
-    c.args.self.now c.pair_count.new.self c.count_nodes.new.self c.begin_object.new.self c.pairs.new.self c.default_value.new.self c.end.new.self (tree_in c.end.new.self.trees c.in_ok-end.field-0)
-    c.in_ok-n.ensures.ok c.in_ok-count_nodes.ensures.ok c.in_ok-number.ensures.state c.in_ok-number.ensures.number c.in_ok-parts.ensures.ok c.in_ok-default.ensures.ok c.in_ok-default.ensures.same c.in_ok-end.ensures.ok

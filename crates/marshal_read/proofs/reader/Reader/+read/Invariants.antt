@@ -1,4 +1,4 @@
-use Rattle.std.proofs.Common.{◌≡◌, ◌+◌, ◌*◌, ◌-◌, []}
+use Rattle.std.proofs.Common.{◌+◌, ◌*◌, ◌-◌, []}
 use Rattle.marshal_grammar.specs.Values.{values, pairs, fields}
 use Rattle.marshal_read.specs.Fails.{reading}
 use Rattle.marshal_read.specs.Scopes.{part_in}
@@ -19,9 +19,6 @@ decreases-hash_value l = scope l.nested + (10 * l.room + 9)
 
 abbrev pub decreases-default_hash_value : goal.decreases-default_hash_value
 decreases-default_hash_value l = scope l.nested + (10 * l.room + 9)
-
-abbrev pub decreases-default_value : goal.decreases-default_value
-decreases-default_value l = scope l.nested + (10 * l.room + 4)
 
 abbrev pub decreases-fields_value : goal.decreases-fields_value
 decreases-fields_value l = scope l.nested + (10 * l.room + 9)
@@ -57,10 +54,10 @@ abbrev pub decreases-fields : goal.decreases-fields
 decreases-fields l = scope l.nested + (10 * l.room + 5)
 
 abbrev pub invariant-values-loop : goal.invariant-values-loop
-invariant-values-loop l = ValuesSo (reading (values (part_in l.nested l.room) l.n) l.initial.self) (part_in l.nested l.room) (l.n - l.counter) l.found l.initial.self.trees l.self
+invariant-values-loop l = ValuesSo (reading (values (part_in l.nested l.room) l.n) l.initial.self) (part_in l.nested l.room) (l.n - l.counter) l.counter l.initial.self.steps l.self
 
 abbrev pub invariant-pairs-loop : goal.invariant-pairs-loop
-invariant-pairs-loop l = PairsSo (reading (pairs (part_in l.nested l.room) [] l.n) l.initial.self) (part_in l.nested l.room) (l.n - l.counter) l.found l.keys l.initial.self.trees l.self
+invariant-pairs-loop l = PairsSo (reading (pairs (part_in l.nested l.room) [] l.n) l.initial.self) (part_in l.nested l.room) (l.n - l.counter) l.counter l.keys l.initial.self.steps l.self
 
 abbrev pub invariant-fields-loop : goal.invariant-fields-loop
-invariant-fields-loop l = FieldsSo (reading (fields (part_in l.nested l.room) [] l.n) l.initial.self) (part_in l.nested l.room) (l.n - l.counter) l.found l.initial.self.trees l.self
+invariant-fields-loop l = FieldsSo (reading (fields (part_in l.nested l.room) [] l.n) l.initial.self) (part_in l.nested l.room) (l.n - l.counter) l.counter l.names l.initial.self.steps l.self

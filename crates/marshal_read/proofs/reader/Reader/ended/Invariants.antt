@@ -5,7 +5,7 @@ use Rattle.marshal_read.proofs.reader.Reader.ended.Given as goal
 
 abbrev pub invariant-loop-at : goal.invariant-loop-at
 invariant-loop-at l = record {
-  trees : l.self.trees ≡ l.initial.self.trees;
+  steps : l.self.steps ≡ l.initial.self.steps;
   same : reading (ended (reverse l.fn.waiting) l.fn.symbol) l.initial.self ≡ reading (ended (reverse l.waiting) l.symbol) l.self;
 }
 

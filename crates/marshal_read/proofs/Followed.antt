@@ -1,5 +1,5 @@
 -- One reading after another.
-use Rattle.std.proofs.Common.{◌≡◌, ℕ, List, Ok, Err, refl, ap, sym, ◌∙◌, Result}
+use Rattle.std.proofs.Common.{◌≡◌, ℕ, List, Ok, Err, refl}
 use Rattle.marshal_grammar.specs.declared.refusal.Refusal.{Refusal}
 use Rattle.marshal_grammar.specs.Contexts.{Context}
 use Rattle.marshal_grammar.specs.Reading.{Read, next}

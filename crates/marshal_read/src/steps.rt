@@ -1,0 +1,88 @@
+//! The steps that make a value.
+
+ghost use Rattle.std.specs.Prelude.{◌≡◌, IfOk};
+
+use crate::span::Span;
+use drb_tree::{Code, Remote};
+use sqlite_items::Boxed;
+use std::alloc::{AllocError, Global};
+
+/// What a class dumped of its object as bytes.
+#[derive(Drop)]
+pub struct Raw<'a> {
+    pub class: Span<'a>,
+    pub bytes: Span<'a>,
+}
+
+impl<'a> Raw<'a> {
+    /// The same.
+    pub fn copy(&self) -> Raw<'a>
+        ensures { result ≡ self.now }
+    {
+        Raw {
+            class: self.class.copy(),
+            bytes: self.bytes.copy(),
+        }
+    }
+}
+
+/// A step in the making of values. It puts one thing behind those that were made before it: a value, or a pair or field
+/// that a value to come is made of. What that takes is at their end.
+#[derive(Drop)]
+pub enum Step<'a> {
+    Nil,
+    Bool(bool),
+    Int(i128),
+    Sym(Span<'a>),
+    Text(Span<'a>, Code),
+    Class(Span<'a>),
+    Module(Span<'a>),
+    /// Takes so many values.
+    List(usize),
+    /// Makes a pair. Takes two values, a key and what it has.
+    Pair,
+    /// Makes a field of this name. Takes a value.
+    Field(Span<'a>),
+    /// Takes so many pairs.
+    Hash(usize),
+    /// Takes so many pairs, and a value as the default.
+    HashWithDefault(usize),
+    /// Takes so many fields; has this class.
+    Object(Span<'a>, usize),
+    Struct(Span<'a>, usize),
+    /// Takes so many fields, the variables.
+    Dumped(Boxed<Raw<'a>>, usize),
+    /// Takes so many fields, which it drops.
+    Remote(Boxed<Remote>, usize),
+    /// Takes a value; has this class.
+    Wrapped(Span<'a>),
+}
+
+impl<'a> Step<'a> {
+    /// The same step.
+    pub fn copy(&self, alloc: Global) -> Result<Step<'a>, AllocError>
+        ensures { IfOk result (λ step. step ≡ self.now) }
+    {
+        Ok(match self {
+            Step::Nil => Step::Nil,
+            Step::Bool(truth) => Step::Bool(*truth),
+            Step::Int(number) => Step::Int(*number),
+            Step::Sym(name) => Step::Sym(name.copy()),
+            Step::Text(bytes, code) => Step::Text(bytes.copy(), *code),
+            Step::Class(name) => Step::Class(name.copy()),
+            Step::Module(name) => Step::Module(name.copy()),
+            Step::List(n) => Step::List(*n),
+            Step::Pair => Step::Pair,
+            Step::Field(name) => Step::Field(name.copy()),
+            Step::Hash(n) => Step::Hash(*n),
+            Step::HashWithDefault(n) => Step::HashWithDefault(*n),
+            Step::Object(class, n) => Step::Object(class.copy(), *n),
+            Step::Struct(class, n) => Step::Struct(class.copy(), *n),
+            Step::Dumped(raw, n) => Step::Dumped(Boxed::new(alloc, raw.get().copy())?, *n),
+            Step::Remote(remote, n) => {
+                Step::Remote(Boxed::new(alloc, remote.get().copy(alloc)?)?, *n)
+            }
+            Step::Wrapped(class) => Step::Wrapped(class.copy()),
+        })
+    }
+}
