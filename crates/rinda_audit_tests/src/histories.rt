@@ -119,7 +119,7 @@ fn the_first_of_two_waiting_takes_may_get_the_tuple(rt: HostRuntime) -> Result<(
     Ok(())
 }
 
-const SECOND_TAKE: [Act; 9] = [
+const SECOND_TAKE: [Act; 12] = [
     Act(
         1,
         1000,
@@ -138,6 +138,30 @@ const SECOND_TAKE: [Act; 9] = [
         true,
     ),
     Act(2, 1000, What::Submit(2), Told::Parked(2), &[], true),
+    Act(
+        3,
+        1000,
+        What::Write(Life::Never),
+        Told::Entry(3),
+        &[],
+        false,
+    ),
+    Act(
+        3,
+        1000,
+        What::Write(Life::Never),
+        Told::Entry(3),
+        &[(2, 2)],
+        false,
+    ),
+    Act(
+        3,
+        1000,
+        What::Write(Life::Never),
+        Told::Entry(2),
+        &[(2, 3)],
+        false,
+    ),
     Act(
         3,
         1000,
@@ -336,7 +360,7 @@ fn a_take_of_no_seconds_gets_what_a_move_let_go(rt: HostRuntime) -> Result<(), F
     Ok(())
 }
 
-const NO_SECONDS_MOVE_DONE: [Act; 10] = [
+const NO_SECONDS_MOVE_DONE: [Act; 13] = [
     Act(3, 1000, What::Write(Life::Never), Told::Entry(1), &[], true),
     Act(
         1,
@@ -346,6 +370,9 @@ const NO_SECONDS_MOVE_DONE: [Act; 10] = [
         &[],
         true,
     ),
+    Act(1, 1000, What::Submit(2), Told::Granted(2), &[], false),
+    Act(1, 1000, What::Submit(2), Told::Granted(2), &[(2, 2)], false),
+    Act(1, 1000, What::Submit(2), Told::Answer, &[(2, 1)], false),
     Act(1, 1000, What::Submit(2), Told::Granted(2), &[(2, 1)], true),
     Act(
         2,

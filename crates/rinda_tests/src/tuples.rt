@@ -6,14 +6,15 @@ use rinda_tuple::{NOT_A_LIST, NotTuple, template_of, tuple_of};
 use std::alloc::Global;
 use std::test::Fail;
 
+/// The dumps of a template and of a tuple, and whether the one matches the other.
 #[derive(Clone, Copy)]
-struct Pair<'a> {
-    template: &'a [u8],
-    tuple: &'a [u8],
-    suits: bool,
+pub struct Pair<'a> {
+    pub template: &'a [u8],
+    pub tuple: &'a [u8],
+    pub suits: bool,
 }
 
-const PAIRS: [Pair<'static>; 27] = [
+pub const PAIRS: [Pair<'static>; 29] = [
     // [Integer, 1..5, nil] with [7, 5, :x] and with [7, 6, :x]
     Pair {
         template: b"\x04\x08[\x08c\x0cIntegero:\x0aRange\x08:\x09exclF:\x0abegini\x06:\x08endi\x0a0",
@@ -24,6 +25,17 @@ const PAIRS: [Pair<'static>; 27] = [
         template: b"\x04\x08[\x08c\x0cIntegero:\x0aRange\x08:\x09exclF:\x0abegini\x06:\x08endi\x0a0",
         tuple: b"\x04\x08[\x08i\x0ci\x0b:\x06x",
         suits: false,
+    },
+    // [1...5] with [5] and with [4]
+    Pair {
+        template: b"\x04\x08[\x06o:\x0aRange\x08:\x09exclT:\x0abegini\x06:\x08endi\x0a",
+        tuple: b"\x04\x08[\x06i\x0a",
+        suits: false,
+    },
+    Pair {
+        template: b"\x04\x08[\x06o:\x0aRange\x08:\x09exclT:\x0abegini\x06:\x08endi\x0a",
+        tuple: b"\x04\x08[\x06i\x09",
+        suits: true,
     },
     // [] with [], [nil] with [], [] with [nil], [1, nil] with [1], [1] with [1, nil]
     Pair {
