@@ -2,13 +2,13 @@
 //!
 //! It stands on `marshal_grammar`, which says what a dump is, and on `drb_value`. It promises that `read_dump` answers a
 //! value exactly where the bytes begin with a dump of it, and a refusal exactly where the grammar refuses them; only
-//! want of memory is free. It returns on all bytes, and takes no memory in advance of the bytes that ask for it.
+//! want of memory is free. It returns on all bytes. A count in the bytes takes no memory in advance.
 //!
 //! What has been read lies flat, as the steps that make it, in the order in which its parts ended; an object is the range
 //! of its steps, and a link to it takes them once more. A text or a name stays in the bytes of the input. The value is
 //! built once, at the end. Read `span.rt`, `steps.rt` and `reader.rt` for what a reader holds, `tables.rt` for how that
-//! changes, then `counts.rt`, `symbols.rt`, `values.rt`, `numbers.rt` and `links.rt` for what
-//! has no parts, `parts.rt`, `references.rt` and `containers.rt` for what has, and `build.rt` for the end.
+//! changes, then `counts.rt`, `symbols.rt`, `values.rt`, `numbers.rt` and `links.rt` for what has no parts, `parts.rt`,
+//! `references.rt` and `containers.rt` for what has, and `build.rt` for the end.
 #![tactic(auto)]
 
 mod build;
