@@ -182,7 +182,7 @@ fn the_second_of_two_waiting_takes_may_get_the_tuple(rt: HostRuntime) -> Result<
     Ok(())
 }
 
-const READ_AND_TAKE: [Act; 10] = [
+const READ_AND_TAKE: [Act; 11] = [
     Act(
         1,
         1000,
@@ -224,6 +224,14 @@ const READ_AND_TAKE: [Act; 10] = [
         What::Write(Life::Never),
         Told::Entry(3),
         &[(2, 3)],
+        false,
+    ),
+    Act(
+        3,
+        1000,
+        What::Write(Life::Never),
+        Told::Entry(4),
+        &[(2, 3), (1, 3)],
         false,
     ),
     Act(
@@ -438,7 +446,7 @@ fn a_canceled_notifier_gives_its_queue_and_then_ends(rt: HostRuntime) -> Result<
     Ok(())
 }
 
-const CANCELED: [Act; 5] = [
+const CANCELED: [Act; 6] = [
     Act(
         1,
         1000,
@@ -449,6 +457,7 @@ const CANCELED: [Act; 5] = [
     ),
     Act(2, 1000, What::Cancel(1), Told::Plain, &[], true),
     Act(1, 1000, What::Submit(1), Told::Parked(1), &[], false),
+    Act(1, 1000, What::Submit(1), Told::Canceled, &[(1, 1)], false),
     Act(1, 1000, What::Submit(1), Told::Canceled, &[], true),
     Act(1, 1000, What::Submit(1), Told::WrongKind, &[], true),
 ];
@@ -506,7 +515,7 @@ const ENDED: Flags = Flags {
     ..NO_FLAG
 };
 
-const BROKEN_LINE: [Act; 18] = [
+const BROKEN_LINE: [Act; 19] = [
     Act(
         1,
         1000,
@@ -518,6 +527,7 @@ const BROKEN_LINE: [Act; 18] = [
     Act(1, 1000, What::Notify, Told::Notifier(2), &[], true),
     Act(1, 10999, What::Tick, Told::Plain, &[], false),
     Act(1, 11000, What::Tick, Told::NotYet, &[], false),
+    Act(1, 11000, What::Tick, Told::Plain, &[(1, 1)], false),
     Act(1, 11000, What::Tick, Told::Plain, &[], true),
     Act(1, 11000, What::ReadAll, Told::All(1), &[], false),
     Act(1, 11000, What::ReadAll, Told::All(0), &[], true),
@@ -542,7 +552,7 @@ fn a_tuple_ends_where_its_renewer_has_no_more_time(rt: HostRuntime) -> Result<()
     Ok(())
 }
 
-const RENEWED: [Act; 12] = [
+const RENEWED: [Act; 13] = [
     Act(
         1,
         1000,
@@ -552,6 +562,7 @@ const RENEWED: [Act; 12] = [
         true,
     ),
     Act(1, 10999, What::Tick, Told::Plain, &[], false),
+    Act(1, 11000, What::Tick, Told::Plain, &[(1, 1)], false),
     Act(1, 11000, What::Tick, Told::Plain, &[], true),
     Act(1, 11000, What::NextAsk, Told::Ask(1), &[], true),
     Act(1, 11000, What::ReadAll, Told::All(0), &[], true),
@@ -577,7 +588,7 @@ fn a_tuple_stays_as_long_as_its_renewer_gives_more_time(rt: HostRuntime) -> Resu
     Ok(())
 }
 
-const BACK: [Act; 6] = [
+const BACK: [Act; 7] = [
     Act(
         1,
         5000,
@@ -595,6 +606,7 @@ const BACK: [Act; 6] = [
         true,
     ),
     Act(1, 5999, What::ReadAll, Told::All(1), &[], false),
+    Act(1, 5999, What::ReadAll, Told::All(2), &[(1, 1)], false),
     Act(1, 5999, What::ReadAll, Told::All(2), &[], true),
     Act(1, 6000, What::ReadAll, Told::All(2), &[], false),
     Act(1, 6000, What::ReadAll, Told::All(0), &[], true),
@@ -606,9 +618,10 @@ fn a_reading_that_goes_back_is_not_believed(rt: HostRuntime) -> Result<(), Fail>
     Ok(())
 }
 
-const ENDED_IDS: [Act; 8] = [
+const ENDED_IDS: [Act; 9] = [
     Act(1, 1000, What::Write(Life::Never), Told::Entry(1), &[], true),
     Act(1, 1000, What::Look(1), Told::State(ALIVE), &[], true),
+    Act(1, 1000, What::Cancel(1), Told::Plain, &[(1, 1)], false),
     Act(1, 1000, What::Cancel(1), Told::Plain, &[], true),
     Act(1, 1000, What::Look(1), Told::Recycled, &[], false),
     Act(1, 1000, What::Look(1), Told::State(ENDED), &[], true),
@@ -654,10 +667,18 @@ fn a_request_that_is_withdrawn_waits_no_more(rt: HostRuntime) -> Result<(), Fail
     Ok(())
 }
 
-const EMPTY_QUEUE: [Act; 5] = [
+const EMPTY_QUEUE: [Act; 6] = [
     Act(1, 1000, What::Notify, Told::Notifier(1), &[], true),
     Act(1, 1000, What::Write(Life::Never), Told::Entry(2), &[], true),
     Act(1, 1000, What::Pop(1), Told::Event("delete"), &[], false),
+    Act(
+        1,
+        1000,
+        What::Pop(1),
+        Told::Event("write"),
+        &[(1, 2)],
+        false,
+    ),
     Act(1, 1000, What::Pop(1), Told::Event("write"), &[], true),
     Act(1, 1000, What::Pop(1), Told::NotYet, &[], false),
 ];
