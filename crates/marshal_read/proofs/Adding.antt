@@ -183,10 +183,12 @@ dumped_ends ss x n f h =
     let fs = (made ss).fields in
     ends_as ss (only_fields fs) (S.Dumped x n) (dumped x.class x.bytes fs) h.makes (omega (arith, h.count), f, rw (back-all n fs (sym h.count)) h.distinct) (rw (front-all n fs (sym h.count), back-all n fs (sym h.count)) refl)
 
-pub remote_ends : (ss : List Step) (r : Remote) (n : ℕ) → HoldsFields ss n → Makes (ss ++ (S.Remote r n ∷ [])) (single (remote r))
+pub remote_ends : (ss : List Step) (r : Remote) (n : ℕ) → HoldsFields ss n → Makes (ss ++ (S.Forget n ∷ S.Remote r ∷ [])) (single (remote r))
 remote_ends ss r n h =
     let fs = (made ss).fields in
-    ends_as ss (only_fields fs) (S.Remote r n) (remote r) h.makes (omega (arith, h.count)) (rw (front-all n fs (sym h.count)) refl)
+    let x : Makes (ss ++ (S.Forget n ∷ [])) nothing =
+    subst (λ (m : Made). Makes (ss ++ (S.Forget n ∷ [])) m) (rw (front-all n fs (sym h.count)) refl) (Makes-step ss (only_fields fs) (S.Forget n) h.makes (omega (arith, h.count))) in
+    subst (λ (zs : List Step). Makes zs (single (remote r))) (append_assoc ss (S.Forget n ∷ []) (S.Remote r ∷ [])) (Makes-step (ss ++ (S.Forget n ∷ [])) nothing (S.Remote r) x tt)
 
 pub wrapped_ends : (ss : List Step) (c : List ℕ) → MakesOne ss → Makes (ss ++ (S.Wrapped c ∷ [])) (single (wrapped c (value_of ss)))
 wrapped_ends ss c h = ends_as ss (single (value_of ss)) (S.Wrapped c) (wrapped c (value_of ss)) h (omega arith) refl
@@ -206,3 +208,9 @@ default_ends a b c n h k =
 -- a value that a step ends, after what was there before
 pub closes : (a b c : List Step) (s : Step) (t : Tree) → Extends a b → c ≡ b ++ (s ∷ []) → Makes (since a b ++ (s ∷ [])) (single t) → (AddsOne a c) × (added a c ≡ t)
 closes a b c s t h e m = adds_one a c t (extends_step a b c s h e) (subst (λ (ss : List Step). Makes ss (single t)) (sym (since_step a b c s h e)) m)
+
+-- a value that some steps end, after what was there before
+pub closes_by : (a b c more : List Step) (t : Tree) → Extends a b → c ≡ b ++ more → Makes (since a b ++ more) (single t) → (AddsOne a c) × (added a c ≡ t)
+closes_by a b c more t h e m =
+    let k : c ≡ a ++ (since a b ++ more) = e ∙ ap (λ (z : List Step). z ++ more) h ∙ append_assoc a (since a b) more in
+    adds_one a c t (extends a c (since a b ++ more) k) (subst (λ (ss : List Step). Makes ss (single t)) (sym (since_is a c (since a b ++ more) k)) m)

@@ -15,7 +15,7 @@ use Rattle.marshal_read.specs.Scopes.{fields_form}
 use Rattle.marshal_read.specs.Making.{single, value_of, Makes, MakesOne, since, added, Extends, AddsOne}
 use Rattle.marshal_read.proofs.Followed.{then_ok}
 use Rattle.marshal_read.proofs.Making.{value_is, makes_one}
-use Rattle.marshal_read.proofs.Adding.{closes}
+use Rattle.marshal_read.proofs.Adding.{closes, closes_by}
 
 -- the last step, where the object has begun at `start`
 pub close_makes : (es fs : List Step) (start : ℕ) (s : Step) (t : Tree) → start ≡ length es → Makes (since es fs ++ (s ∷ [])) (single t) → MakesOne (drop start fs ++ (s ∷ []))
@@ -125,3 +125,6 @@ wrapped_read part at k cls v r z b c e f e0 e2 e3 e4 e5 e6 =
 
 pub steps_of : (c e : State) → e ≡ record c { seen = begin_object c.seen } → c.steps ≡ e.steps
 steps_of c e h = sym (ap (λ (s : State). s.steps) h)
+
+pub close_adds_by : (xs es fs hs more : List Step) (t : Tree) → xs ≡ es → Extends es fs → hs ≡ fs ++ more → Makes (since es fs ++ more) (single t) → AddsOne xs hs
+close_adds_by xs es fs hs more t e x y m = subst (λ (zs : List Step). AddsOne zs hs) (sym e) (closes_by es fs hs more t x y m).0

@@ -80,7 +80,8 @@ after-join r m (S.HashWithDefault n) h =
 after-join r m (S.Object c n) h = rw (back-join n r.fields m.fields h.0) (put_for_fields-join r m n (object c (back n m.fields)) h.0)
 after-join r m (S.Struct c n) h = rw (back-join n r.fields m.fields h.0) (put_for_fields-join r m n (structure c (back n m.fields)) h.0)
 after-join r m (S.Dumped x n) h = rw (back-join n r.fields m.fields h.0) (put_for_fields-join r m n (dumped x.class x.bytes (back n m.fields)) h.0)
-after-join r m (S.Remote x n) h = put_for_fields-join r m n (remote x) h
+after-join r m (S.Remote x) h = put-join r m (remote x)
+after-join r m (S.Forget n) h = rw (front-join n r.fields m.fields h) refl
 after-join r m (S.Wrapped c) h = rw (last-join r.values m.values h) (put_for_last-join r m (wrapped c (last m.values)) h)
 
 pub fits-join : (r m : Made) (s : Step) → Fits m s → Fits (join r m) s
@@ -99,7 +100,8 @@ fits-join r m (S.HashWithDefault n) h = (omega (arith, h.0, length-append r.valu
 fits-join r m (S.Object c n) h = (omega (arith, h.0, length-append r.fields m.fields), rw (back-join n r.fields m.fields h.0) h.1)
 fits-join r m (S.Struct c n) h = (omega (arith, h.0, length-append r.fields m.fields), rw (back-join n r.fields m.fields h.0) h.1)
 fits-join r m (S.Dumped x n) h = (omega (arith, h.0, length-append r.fields m.fields), h.1, rw (back-join n r.fields m.fields h.0) h.2)
-fits-join r m (S.Remote x n) h = omega (arith, h, length-append r.fields m.fields)
+fits-join r m (S.Remote x) h = tt
+fits-join r m (S.Forget n) h = omega (arith, h, length-append r.fields m.fields)
 fits-join r m (S.Wrapped c) h = omega (arith, h, length-append r.values m.values)
 
 pub after_all-join : (r m : Made) (ss : List Step) → AllFit m ss → after_all (join r m) ss ≡ join r (after_all m ss)
@@ -152,6 +154,7 @@ leaf_makes (S.Sym s) h = record { fit = (tt, tt); is = refl }
 leaf_makes (S.Text s code) h = record { fit = (tt, tt); is = refl }
 leaf_makes (S.Class s) h = record { fit = (tt, tt); is = refl }
 leaf_makes (S.Module s) h = record { fit = (tt, tt); is = refl }
+leaf_makes (S.Remote x) h = record { fit = (tt, tt); is = refl }
 leaf_makes (S.List _) h = elim h [ ]
 leaf_makes S.Pair h = elim h [ ]
 leaf_makes (S.Field _) h = elim h [ ]
@@ -160,7 +163,7 @@ leaf_makes (S.HashWithDefault _) h = elim h [ ]
 leaf_makes (S.Object _ _) h = elim h [ ]
 leaf_makes (S.Struct _ _) h = elim h [ ]
 leaf_makes (S.Dumped _ _) h = elim h [ ]
-leaf_makes (S.Remote _ _) h = elim h [ ]
+leaf_makes (S.Forget _) h = elim h [ ]
 leaf_makes (S.Wrapped _) h = elim h [ ]
 
 -- the next of these steps

@@ -67,7 +67,8 @@ after m (S.HashWithDefault n) = record m { values = front 1 m.values ++ (hash (b
 after m (S.Object c n) = put_for_fields n (object c (back n m.fields)) m
 after m (S.Struct c n) = put_for_fields n (structure c (back n m.fields)) m
 after m (S.Dumped r n) = put_for_fields n (dumped r.class r.bytes (back n m.fields)) m
-after m (S.Remote r n) = put_for_fields n (remote r) m
+after m (S.Remote r) = put (remote r) m
+after m (S.Forget n) = record m { fields = front n m.fields }
 after m (S.Wrapped c) = put_for_last (wrapped c (last m.values)) m
 
 -- a step finds what it takes, and what it makes of that is a value
@@ -80,7 +81,7 @@ Fits m (S.HashWithDefault n) = (1 ≤ length m.values) × (n ≤ length m.pairs)
 Fits m (S.Object c n) = (n ≤ length m.fields) × IsTrue (names_distinct (back n m.fields))
 Fits m (S.Struct c n) = (n ≤ length m.fields) × IsTrue (names_distinct (back n m.fields))
 Fits m (S.Dumped r n) = (n ≤ length m.fields) × (r.class ≡ remote_class → ⊥) × IsTrue (names_distinct (back n m.fields))
-Fits m (S.Remote r n) = n ≤ length m.fields
+Fits m (S.Forget n) = n ≤ length m.fields
 Fits m (S.Wrapped c) = 1 ≤ length m.values
 Fits m _ = Unit {0}
 
@@ -94,7 +95,7 @@ Leaf (S.HashWithDefault n) = ⊥
 Leaf (S.Object c n) = ⊥
 Leaf (S.Struct c n) = ⊥
 Leaf (S.Dumped r n) = ⊥
-Leaf (S.Remote r n) = ⊥
+Leaf (S.Forget n) = ⊥
 Leaf (S.Wrapped c) = ⊥
 Leaf _ = Unit {0}
 

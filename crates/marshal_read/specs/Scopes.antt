@@ -1,5 +1,5 @@
 -- Where a value stands: in a dump, or in the inner dump of a remote object.
-use Rattle.std.specs.Prelude.{ℕ, ◌≡◌, Bool, true, false, List, Option, Some, None, Ok, Err}
+use Rattle.std.specs.Prelude.{ℕ, ◌≡◌, Bool, true, false, List, [], ◌∷◌, Option, Some, None, Ok, Err}
 use Rattle.std.proofs.Common.{inl, inr}
 use Rattle.drb_tree.specs.declared.Remote.{Remote}
 use Rattle.drb_tree.specs.declared.Tree.{Tree}
@@ -34,10 +34,10 @@ abbrev pub held_is : Held → V.Held
 held_is (H.Remote r) = inl r
 held_is (H.Other c bs) = inr (c, bs)
 
--- the step that makes its value, with n variables
-abbrev pub held_step : Held → ℕ → Step
-held_step (H.Remote r) n = S.Remote r n
-held_step (H.Other c bs) n = S.Dumped (record { class = c; bytes = bs }) n
+-- the steps that make its value, with n variables, which a remote object drops
+abbrev pub held_steps : Held → ℕ → List Step
+held_steps (H.Remote r) n = S.Forget n ∷ S.Remote r ∷ []
+held_steps (H.Other c bs) n = S.Dumped (record { class = c; bytes = bs }) n ∷ []
 
 -- the class of anything else is not that of remote objects
 abbrev pub Foreign : Held → Type 0

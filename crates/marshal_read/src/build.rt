@@ -7,7 +7,7 @@ ghost use Rattle.marshal_read.specs.Making.{Made, nothing, front, back, last, pu
 
 use crate::span::Span;
 use crate::steps::Step;
-use drb_value::{Boxed, Dumped, FieldList, Items, Name, Pairs, Remote, Text, Value};
+use drb_value::{Boxed, Dumped, FieldList, Items, Name, Pairs, Text, Value};
 use std::alloc::{AllocError, Global};
 use std::marker::Model;
 
@@ -121,7 +121,8 @@ impl Parts {
                 let raw = raw.get();
                 self.dumped(alloc, name(alloc, &raw.class)?, &raw.bytes, *n)
             }
-            Step::Remote(remote, n) => self.remote(remote.get().copy(alloc)?, *n),
+            Step::Remote(remote) => self.put(Value::remote(remote.get().copy(alloc)?)),
+            Step::Forget(n) => self.forget(*n),
             Step::Wrapped(class) => self.wrapped(alloc, name(alloc, class)?),
         }
     }
@@ -243,12 +244,12 @@ impl Parts {
         self.put(Value::dumped(Dumped::of(class, bytes, fields)))
     }
 
-    fn remote(&mut self, remote: Remote, n: usize) -> Result<(), AllocError>
+    fn forget(&mut self, n: usize) -> Result<(), AllocError>
         requires { n ≤ length self.old.fields }
-        ensures { OnOk result (self.new ≡ after self.old (Step.Remote remote n)) }
+        ensures { OnOk result (self.new ≡ after self.old (Step.Forget n)) }
     {
         drop(split(&mut self.fields, n)?);
-        self.put(Value::remote(remote))
+        Ok(())
     }
 
     fn wrapped(&mut self, alloc: Global, class: Name) -> Result<(), AllocError>

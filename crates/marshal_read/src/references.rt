@@ -8,7 +8,7 @@ ghost use Rattle.marshal_grammar.specs.Values.{whole, held_value, held_nodes};
 ghost use Rattle.drb_value.specs.View.{layer};
 ghost use Rattle.marshal_read.specs.Fails.{Fails, reading};
 ghost use Rattle.marshal_read.specs.Making.{made, value_of, MakesOne, HoldsFields};
-ghost use Rattle.marshal_read.specs.Scopes.{held_is, held_step, Foreign};
+ghost use Rattle.marshal_read.specs.Scopes.{held_is, held_steps, Foreign};
 
 use crate::counts::heavy;
 use crate::error::{ReadError, refuse};
@@ -57,13 +57,14 @@ impl<'a> Reader<'a> {
         requires start { start ≤ length self.old.steps }
         requires foreign { Foreign held }
         requires fields { HoldsFields (drop start self.old.steps) n }
-        ensures ok { OnOk result (reading (whole (held_value (held_is held.entry) (made (drop start self.old.steps)).fields)) self.old ≡ Ok (value_of (drop start self.old.steps ++ (held_step held.entry n ∷ [])), self.new.seen, self.new.rest)) }
-        ensures steps { OnOk result (self.new.steps ≡ self.old.steps ++ (held_step held.entry n ∷ [])) }
+        ensures ok { OnOk result (reading (whole (held_value (held_is held.entry) (made (drop start self.old.steps)).fields)) self.old ≡ Ok (value_of (drop start self.old.steps ++ held_steps held.entry n), self.new.seen, self.new.rest)) }
+        ensures steps { OnOk result (self.new.steps ≡ self.old.steps ++ held_steps held.entry n) }
     {
         match held {
             Held::Remote(remote) => {
                 let remote = Boxed::new(alloc, remote)?;
-                self.whole_from(start, Step::Remote(remote, n))
+                self.push(Step::Forget(n))?;
+                self.whole(Step::Remote(remote))
             }
             Held::Other(class, bytes) => {
                 let raw = Boxed::new(alloc, Raw { class, bytes })?;

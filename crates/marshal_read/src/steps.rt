@@ -37,6 +37,9 @@ pub enum Step<'a> {
     Text(Span<'a>, Code),
     Class(Span<'a>),
     Module(Span<'a>),
+    Remote(Boxed<Remote>),
+    /// Takes so many fields, and makes nothing of them.
+    Forget(usize),
     /// Takes so many values.
     List(usize),
     /// Makes a pair. Takes two values, a key and what it has.
@@ -52,8 +55,6 @@ pub enum Step<'a> {
     Struct(Span<'a>, usize),
     /// Takes so many fields, the variables.
     Dumped(Boxed<Raw<'a>>, usize),
-    /// Takes so many fields, which it drops.
-    Remote(Boxed<Remote>, usize),
     /// Takes a value; has this class.
     Wrapped(Span<'a>),
 }
@@ -79,9 +80,8 @@ impl<'a> Step<'a> {
             Step::Object(class, n) => Step::Object(class.copy(), *n),
             Step::Struct(class, n) => Step::Struct(class.copy(), *n),
             Step::Dumped(raw, n) => Step::Dumped(Boxed::new(alloc, raw.get().copy())?, *n),
-            Step::Remote(remote, n) => {
-                Step::Remote(Boxed::new(alloc, remote.get().copy(alloc)?)?, *n)
-            }
+            Step::Remote(remote) => Step::Remote(Boxed::new(alloc, remote.get().copy(alloc)?)?),
+            Step::Forget(n) => Step::Forget(*n),
             Step::Wrapped(class) => Step::Wrapped(class.copy()),
         })
     }

@@ -38,6 +38,7 @@ impl<'a> Reader<'a> {
     pub fn whole(&mut self, step: Step<'a>) -> Result<(), AllocError>
         requires { Leaf step }
         ensures ok { OnOk result (reading (whole (value_of (step.entry ∷ []))) self.old ≡ Ok (added self.old.steps self.new.steps, self.new.seen, self.new.rest)) }
+        ensures steps { OnOk result (self.new.steps ≡ self.old.steps ++ (step.entry ∷ [])) }
         ensures adds { OnOk result (AddsOne self.old.steps self.new.steps) }
     {
         let start = self.count_steps();

@@ -19,10 +19,10 @@ use Rattle.marshal_grammar.specs.Trees.{list, hash, object, structure, wrapped}
 use Rattle.marshal_grammar.specs.Values as V
 use Rattle.marshal_read.specs.declared.steps.Step.TheVariants as S
 use Rattle.marshal_read.specs.Making.{since, values_in, pairs_in, fields_in}
-use Rattle.marshal_read.specs.Scopes.{held_is, held_step, fields_form}
+use Rattle.marshal_read.specs.Scopes.{held_is, held_steps, fields_form}
 use Rattle.marshal_read.proofs.Adding.{list_ends, hash_ends, object_ends, struct_ends, wrapped_ends, default_ends, extends_then}
 use Rattle.marshal_read.proofs.Holding.{held_ends}
-use Rattle.marshal_read.proofs.Closed.{close_makes, close_adds, close_read, list_read, hash_read, default_hash_read, fields_read, wrapped_read, steps_of}
+use Rattle.marshal_read.proofs.Closed.{close_makes, close_adds, close_adds_by, close_read, list_read, hash_read, default_hash_read, fields_read, wrapped_read, steps_of}
 use Rattle.marshal_read.proofs.Opened.{opened, closed, untyped, missing, given_ok, given_err}
 use Rattle.marshal_read.proofs.Loops.{values_begin, values_more, pairs_begin, pairs_more, pairs_double, pairs_failed_value, fields_more, fields_double, fields_failed_value}
 use Rattle.marshal_read.proofs.reader.Reader.+read.Goals as goal
@@ -200,7 +200,7 @@ wrapped_value-returns-clause-adds t c =
 
 pub marked_dumped-returns-clause-adds : goal.marked_dumped-returns-clause-adds
 marked_dumped-returns-clause-adds t c =
-    close_adds c.args.self.now.steps c.count_nodes.new.self.steps c.fields.new.self.steps c.held_value.new.self.steps (held_step c.in_ok-held.held c.in_ok-variables.variables)
+    close_adds_by c.args.self.now.steps c.count_nodes.new.self.steps c.fields.new.self.steps c.held_value.new.self.steps (held_steps c.in_ok-held.held c.in_ok-variables.variables)
     (V.held_value (held_is c.in_ok-held.held) (fields_in c.count_nodes.new.self.steps c.fields.new.self.steps))
     (sym (c.in_ok-count_nodes.ensures.kept ∙ c.in_ok-variables.ensures.kept ∙ c.in_ok-held.ensures.kept)) c.in_ok-fields.ensures.adds.extends c.in_ok-held_value.ensures.steps
     (held_ends c.in_ok-held.held (since c.count_nodes.new.self.steps c.fields.new.self.steps) c.in_ok-variables.variables c.in_ok-held.ensures.foreign c.in_ok-fields.ensures.adds.holds)
