@@ -31,6 +31,7 @@ pub enum Kind {
 /// The kind that a type byte stands for; `None` where the byte is no type byte.
 ///
 /// Source: Ruby's marshal.c, r_object_for; docs/MARSHAL.md, Values.
+#[inline(always)]
 pub fn kind_of(byte: u8) -> Option<Kind>
     ensures { result ≡ kind_of byte }
 {

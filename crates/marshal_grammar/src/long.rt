@@ -10,6 +10,7 @@ use crate::refusal::Why;
 /// `at` counts bytes from the front. Spellings longer than needed are read.
 /// Errors: `Short` exactly where bytes of the long are missing.
 /// Source: Ruby's marshal.c, r_long; docs/MARSHAL.md, Longs.
+#[inline(always)]
 pub fn long_at(bytes: &[u8], at: usize) -> Result<(i64, usize), Why>
     requires { at ≤ length bytes.now }
     ensures exact { MatchResult result
@@ -33,6 +34,7 @@ pub fn long_at(bytes: &[u8], at: usize) -> Result<(i64, usize), Why>
 }
 
 /// How many bytes follow the byte `c` of a long.
+#[inline(always)]
 fn more_after(c: u8) -> usize
     ensures { result ≡ more_after c }
 {
@@ -46,6 +48,7 @@ fn more_after(c: u8) -> usize
 }
 
 /// What the byte `c` and the bytes after it stand for.
+#[inline(always)]
 fn value_of(c: u8, bytes: &[u8]) -> i64
     requires { length bytes.now ≡ more_after c }
     ensures { result ≡ long_value c bytes.now }
@@ -60,6 +63,7 @@ fn value_of(c: u8, bytes: &[u8]) -> i64
 }
 
 /// 256 to the power `n`.
+#[inline(always)]
 fn power(n: usize) -> i64
     requires { n ≤ 4 }
     ensures value { result ≡ pos (256 ^ n) }
@@ -76,6 +80,7 @@ fn power(n: usize) -> i64
 }
 
 /// The number of up to four bytes, the first the least.
+#[inline(always)]
 fn little(bytes: &[u8]) -> u64
     requires { length bytes.now ≤ 4 }
     ensures value { result ≡ little bytes.now }

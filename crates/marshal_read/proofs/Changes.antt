@@ -10,6 +10,11 @@ use Rattle.marshal_read.specs.State.{State}
 use Rattle.marshal_read.specs.Making.{value_of, MakesOne, cut, objects_at, Stands, ObjectsStand}
 use Rattle.marshal_read.specs.View.{state_of, Sound}
 
+-- the last step, replaced
+pub replaced : (ss : List Step) (s t : Step) → slice_set (ss ++ (s ∷ [])) (length ss) t ≡ ss ++ (t ∷ [])
+replaced [] s t = refl
+replaced (r ∷ ss) s t = ap (λ (rs : List Step). r ∷ rs) (replaced ss s t)
+
 -- steps that were there before stay
 cut-append : (ss ts : List Step) (r : ℕ × ℕ) → r.1 ≤ length ss → cut r (ss ++ ts) ≡ cut r ss
 cut-append ss ts r h = ap (drop r.0) (take-append-le r.1 ss ts h)

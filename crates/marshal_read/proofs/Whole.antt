@@ -4,6 +4,7 @@ use Rattle.std.proofs.Math.Seq.{take-append_seam}
 use Rattle.std.proofs.lemmas.List.{take-append-drop}
 use Rattle.drb_tree.specs.declared.Tree.{Tree}
 use Rattle.marshal_grammar.specs.declared.refusal.Why.{Why}
+use Rattle.marshal_grammar.specs.declared.refusal.Why.TheVariants as why
 use Rattle.marshal_grammar.specs.declared.refusal.Refusal.{Refusal}
 use Rattle.marshal_grammar.specs.Contexts.{Context, opening}
 use Rattle.marshal_grammar.specs.Reading.{read}
@@ -80,7 +81,7 @@ so_every_refusal bs (Ok x) h w at k =
 
 -- the reader at the front
 abbrev pub start : List ℕ → State
-start bs = record { rest = bs; seen = opening; steps = [] }
+start bs = record { rest = bs; seen = opening; steps = []; refused = record { why = why.Short; at = 0 } }
 
 read_whole : (bs : List ℕ) (s : State) → s ≡ start bs → dump_of bs ≡ reading (dump_with (reference_in false)) s
 read_whole bs s h = dump_is bs ∙ sym (ap (λ (z : State). reading (dump_with reference) z) h)

@@ -1,9 +1,12 @@
 -- What a reader's error says.
 use Rattle.std.specs.Prelude.{◌≡◌, Err}
+use Rattle.marshal_grammar.specs.declared.refusal.Refusal.{Refusal}
 use Rattle.marshal_grammar.specs.Grammar.{Grammar}
 use Rattle.marshal_grammar.specs.Reading.{Read, read}
 use Rattle.marshal_read.specs.declared.error.ReadError.{ReadError}
 use Rattle.marshal_read.specs.declared.error.ReadError.TheVariants as error
+use Rattle.marshal_read.specs.declared.error.Stop.{Stop}
+use Rattle.marshal_read.specs.declared.error.Stop.TheVariants as stop
 use Rattle.marshal_read.specs.State.{State}
 
 -- reading met this refusal, unless memory ran out
@@ -14,3 +17,8 @@ Fails (error.Refused f) r = r ≡ Err f
 -- what a piece of the grammar gives from here
 abbrev pub reading : {A : Type 0} → Grammar A → State → Read A
 reading g s = read g s.seen s.rest
+
+-- the error of a stop, after this refusal
+abbrev pub error_of : Stop → Refusal → ReadError
+error_of stop.Memory f = error.Memory
+error_of stop.Refused f = error.Refused f

@@ -6,3 +6,4 @@ pub mod Rounds
 pub mod Links
 pub mod Scopes
 pub mod Dumps
+pub mod Kept

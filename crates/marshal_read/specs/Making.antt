@@ -1,5 +1,5 @@
 -- What steps make, one after the other.
-use Rattle.std.specs.Prelude.{ℕ, ◌-◌, ◌≤◌, ◌≡◌, List, [], ◌∷◌, ◌++◌, length, map, take, drop, Option, Some, None, option_map, Bool, false, ◌||◌, IsTrue, bytes_eq}
+use Rattle.std.specs.Prelude.{ℕ, ◌-◌, ◌≤◌, ◌≡◌, List, [], ◌∷◌, ◌++◌, length, map, take, drop, Option, Some, None, option_map, Bool, true, false, ◌||◌, IsTrue, bytes_eq}
 use Rattle.drb_tree.specs.declared.Tree.{Tree}
 use Rattle.drb_tree.specs.Same.{same}
 use Rattle.drb_tree.specs.Kept.{keys_distinct, names_distinct, remote_class}
@@ -186,6 +186,11 @@ pub record AddsFields (old new : List Step) (n : ℕ) : Type 0 where
 -- the steps from one index to another
 abbrev pub cut : ℕ × ℕ → List Step → List Step
 cut r ss = drop r.0 (take r.1 ss)
+
+-- the range of an object that is finished, and none of one that isn't
+abbrev pub range_of : Bool → ℕ → ℕ → Option (ℕ × ℕ)
+range_of true b e = Some (b, e)
+range_of false b e = None
 
 -- the steps between two indices are there, and make one value
 pub record Stands (ss : List Step) (r : ℕ × ℕ) : Type 0 where

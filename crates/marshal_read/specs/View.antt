@@ -9,6 +9,7 @@ state_of a = record {
   rest = a.rest.now;
   seen = record { at = a.at; symbols = a.symbols; objects = objects_at a.steps a.objects; nodes = a.nodes };
   steps = a.steps;
+  refused = a.refused;
 }
 
 -- The place fits a `usize` up to the end of the bytes, and each finished object is made by steps that are there.

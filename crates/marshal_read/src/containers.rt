@@ -1,16 +1,16 @@
 //! Values, by the byte that they begin with.
 
-ghost use Rattle.std.specs.Prelude.{◌≡◌, ℕ, ◌+◌, ◌≤◌, ◌<◌, suc, length, IfOk, IfErr, OnOk, Ok, Err, if◌then◌else◌};
+ghost use Rattle.std.specs.Prelude.{◌≡◌, ℕ, ◌+◌, ◌≤◌, ◌<◌, suc, length, IfOk, IfErr, OnOk, Ok, Err, false, if◌then◌else◌};
 ghost use Rattle.marshal_grammar.specs.Contexts.{opening};
 ghost use Rattle.marshal_grammar.specs.Kinds.{kind_of};
 ghost use Rattle.marshal_grammar.specs.Reading.{read};
 ghost use Rattle.marshal_grammar.specs.Dumps.{dump_with};
 ghost use Rattle.marshal_grammar.specs.Values.{body, list_value, hash_value, default_hash_value, fields_value, wrapped_value, marked_value, marked_dumped, dumped_value, held};
-ghost use Rattle.marshal_read.specs.Fails.{Fails, reading};
+ghost use Rattle.marshal_read.specs.Fails.{Fails, reading, error_of};
 ghost use Rattle.marshal_read.specs.Making.{added, AddsOne};
 ghost use Rattle.marshal_read.specs.Scopes.{reference_in, part_in, given, held_is, Foreign, fields_form};
 
-use crate::error::{ReadError, refuse};
+use crate::error::{ReadError, Stop};
 use crate::reader::Reader;
 use crate::references::{Held, held_nodes};
 use crate::span::Span;
@@ -24,16 +24,16 @@ use std::alloc::{AllocError, Global};
 impl<'a> Reader<'a> {
     /// A value, where so many levels are left, itself among them.
     #[cycle(read)]
-    pub fn value(&mut self, alloc: Global, nested: bool, room: usize) -> Result<(), ReadError>
+    pub fn value(&mut self, alloc: Global, nested: bool, room: usize) -> Result<(), Stop>
         requires { room ≤ 128 }
         ensures ok { OnOk result (reading (part_in nested room) self.old ≡ Ok (added self.old.steps self.new.steps, self.new.seen, self.new.rest)) }
         ensures adds { OnOk result (AddsOne self.old.steps self.new.steps) }
-        ensures err { IfErr result (λ e. Fails e (reading (part_in nested room) self.old)) }
+        ensures err { IfErr result (λ e. Fails (error_of e self.new.refused) (reading (part_in nested room) self.old)) }
     {
         let at = self.at();
         let first = self.byte()?;
         let Some(kind) = kind_of(first) else {
-            return Err(refuse(Why::BadType(first), at));
+            return Err(self.refuse(Why::BadType(first), at));
         };
         if room == 0 {
             return self.too_deep(alloc, kind, at);
@@ -51,11 +51,11 @@ impl<'a> Reader<'a> {
         room: usize,
         at: usize,
         kind: Kind,
-    ) -> Result<(), ReadError>
+    ) -> Result<(), Stop>
         requires { room < 128 }
         ensures ok { OnOk result (reading (body (reference_in nested) (part_in nested room) (suc room) kind at) self.old ≡ Ok (added self.old.steps self.new.steps, self.new.seen, self.new.rest)) }
         ensures adds { OnOk result (AddsOne self.old.steps self.new.steps) }
-        ensures err { IfErr result (λ e. Fails e (reading (body (reference_in nested) (part_in nested room) (suc room) kind at) self.old)) }
+        ensures err { IfErr result (λ e. Fails (error_of e self.new.refused) (reading (body (reference_in nested) (part_in nested room) (suc room) kind at) self.old)) }
     {
         match kind {
             Kind::Nil => self.simple(at, Step::Nil),
@@ -82,17 +82,18 @@ impl<'a> Reader<'a> {
 
     /// After `[`: a long, and so many values.
     #[cycle(read)]
+    #[inline(always)]
     fn list_value(
         &mut self,
         alloc: Global,
         nested: bool,
         room: usize,
         at: usize,
-    ) -> Result<(), ReadError>
+    ) -> Result<(), Stop>
         requires { room < 128 }
         ensures ok { OnOk result (reading (list_value (part_in nested room) at) self.old ≡ Ok (added self.old.steps self.new.steps, self.new.seen, self.new.rest)) }
         ensures adds { OnOk result (AddsOne self.old.steps self.new.steps) }
-        ensures err { IfErr result (λ e. Fails e (reading (list_value (part_in nested room) at) self.old)) }
+        ensures err { IfErr result (λ e. Fails (error_of e self.new.refused) (reading (list_value (part_in nested room) at) self.old)) }
     {
         let n = self.count()?;
         self.count_nodes(at, 1)?;
@@ -109,11 +110,11 @@ impl<'a> Reader<'a> {
         nested: bool,
         room: usize,
         at: usize,
-    ) -> Result<(), ReadError>
+    ) -> Result<(), Stop>
         requires { room < 128 }
         ensures ok { OnOk result (reading (hash_value (part_in nested room) at) self.old ≡ Ok (added self.old.steps self.new.steps, self.new.seen, self.new.rest)) }
         ensures adds { OnOk result (AddsOne self.old.steps self.new.steps) }
-        ensures err { IfErr result (λ e. Fails e (reading (hash_value (part_in nested room) at) self.old)) }
+        ensures err { IfErr result (λ e. Fails (error_of e self.new.refused) (reading (hash_value (part_in nested room) at) self.old)) }
     {
         let n = self.pair_count()?;
         self.count_nodes(at, 1)?;
@@ -130,11 +131,11 @@ impl<'a> Reader<'a> {
         nested: bool,
         room: usize,
         at: usize,
-    ) -> Result<(), ReadError>
+    ) -> Result<(), Stop>
         requires { room < 128 }
         ensures ok { OnOk result (reading (default_hash_value (part_in nested room) at) self.old ≡ Ok (added self.old.steps self.new.steps, self.new.seen, self.new.rest)) }
         ensures adds { OnOk result (AddsOne self.old.steps self.new.steps) }
-        ensures err { IfErr result (λ e. Fails e (reading (default_hash_value (part_in nested room) at) self.old)) }
+        ensures err { IfErr result (λ e. Fails (error_of e self.new.refused) (reading (default_hash_value (part_in nested room) at) self.old)) }
     {
         let n = self.pair_count()?;
         self.count_nodes(at, 1)?;
@@ -153,11 +154,11 @@ impl<'a> Reader<'a> {
         room: usize,
         at: usize,
         is_struct: bool,
-    ) -> Result<(), ReadError>
+    ) -> Result<(), Stop>
         requires { room < 128 }
         ensures ok { OnOk result (reading (fields_value (fields_form is_struct) (part_in nested room) at) self.old ≡ Ok (added self.old.steps self.new.steps, self.new.seen, self.new.rest)) }
         ensures adds { OnOk result (AddsOne self.old.steps self.new.steps) }
-        ensures err { IfErr result (λ e. Fails e (reading (fields_value (fields_form is_struct) (part_in nested room) at) self.old)) }
+        ensures err { IfErr result (λ e. Fails (error_of e self.new.refused) (reading (fields_value (fields_form is_struct) (part_in nested room) at) self.old)) }
     {
         let class = Span::of(self.name(alloc)?);
         let n = self.pair_count()?;
@@ -178,11 +179,11 @@ impl<'a> Reader<'a> {
         nested: bool,
         room: usize,
         at: usize,
-    ) -> Result<(), ReadError>
+    ) -> Result<(), Stop>
         requires { room < 128 }
         ensures ok { OnOk result (reading (wrapped_value (part_in nested room) at) self.old ≡ Ok (added self.old.steps self.new.steps, self.new.seen, self.new.rest)) }
         ensures adds { OnOk result (AddsOne self.old.steps self.new.steps) }
-        ensures err { IfErr result (λ e. Fails e (reading (wrapped_value (part_in nested room) at) self.old)) }
+        ensures err { IfErr result (λ e. Fails (error_of e self.new.refused) (reading (wrapped_value (part_in nested room) at) self.old)) }
     {
         let class = Span::of(self.name(alloc)?);
         self.count_nodes(at, 1)?;
@@ -193,17 +194,18 @@ impl<'a> Reader<'a> {
 
     /// After `I`: a text, a symbol or a `u`.
     #[cycle(read)]
+    #[inline(always)]
     fn marked_value(
         &mut self,
         alloc: Global,
         nested: bool,
         room: usize,
         at: usize,
-    ) -> Result<(), ReadError>
+    ) -> Result<(), Stop>
         requires { room < 128 }
         ensures ok { OnOk result (reading (marked_value (reference_in nested) (part_in nested room) at) self.old ≡ Ok (added self.old.steps self.new.steps, self.new.seen, self.new.rest)) }
         ensures adds { OnOk result (AddsOne self.old.steps self.new.steps) }
-        ensures err { IfErr result (λ e. Fails e (reading (marked_value (reference_in nested) (part_in nested room) at) self.old)) }
+        ensures err { IfErr result (λ e. Fails (error_of e self.new.refused) (reading (marked_value (reference_in nested) (part_in nested room) at) self.old)) }
     {
         let place = self.at();
         let mark = self.byte()?;
@@ -211,7 +213,7 @@ impl<'a> Reader<'a> {
             Some(Kind::Text) => self.marked_text(alloc, at),
             Some(Kind::Symbol) => self.marked_symbol_value(alloc, at),
             Some(Kind::Dumped) => self.marked_dumped(alloc, nested, room, at),
-            _ => Err(refuse(Why::BadType(mark), place)),
+            _ => Err(self.refuse(Why::BadType(mark), place)),
         }
     }
 
@@ -223,11 +225,11 @@ impl<'a> Reader<'a> {
         nested: bool,
         room: usize,
         at: usize,
-    ) -> Result<(), ReadError>
+    ) -> Result<(), Stop>
         requires { room < 128 }
         ensures ok { OnOk result (reading (marked_dumped (reference_in nested) (part_in nested room) at) self.old ≡ Ok (added self.old.steps self.new.steps, self.new.seen, self.new.rest)) }
         ensures adds { OnOk result (AddsOne self.old.steps self.new.steps) }
-        ensures err { IfErr result (λ e. Fails e (reading (marked_dumped (reference_in nested) (part_in nested room) at) self.old)) }
+        ensures err { IfErr result (λ e. Fails (error_of e self.new.refused) (reading (marked_dumped (reference_in nested) (part_in nested room) at) self.old)) }
     {
         let start = self.count_steps();
         let held = self.held(alloc, nested, at)?;
@@ -239,10 +241,10 @@ impl<'a> Reader<'a> {
 
     /// After `u`: a class symbol, a length and bytes.
     #[cycle(read)]
-    fn dumped_value(&mut self, alloc: Global, nested: bool, at: usize) -> Result<(), ReadError>
+    fn dumped_value(&mut self, alloc: Global, nested: bool, at: usize) -> Result<(), Stop>
         ensures ok { OnOk result (reading (dumped_value (reference_in nested) at) self.old ≡ Ok (added self.old.steps self.new.steps, self.new.seen, self.new.rest)) }
         ensures adds { OnOk result (AddsOne self.old.steps self.new.steps) }
-        ensures err { IfErr result (λ e. Fails e (reading (dumped_value (reference_in nested) at) self.old)) }
+        ensures err { IfErr result (λ e. Fails (error_of e self.new.refused) (reading (dumped_value (reference_in nested) at) self.old)) }
     {
         let start = self.count_steps();
         let held = self.held(alloc, nested, at)?;
@@ -252,11 +254,11 @@ impl<'a> Reader<'a> {
 
     /// A class symbol, a length and bytes.
     #[cycle(read)]
-    fn held(&mut self, alloc: Global, nested: bool, at: usize) -> Result<Held<'a>, ReadError>
+    fn held(&mut self, alloc: Global, nested: bool, at: usize) -> Result<Held<'a>, Stop>
         ensures foreign { IfOk result (λ h. Foreign h) }
         ensures ok { IfOk result (λ h. reading (held (reference_in nested) at) self.old ≡ Ok (held_is h, self.new.seen, self.new.rest)) }
         ensures kept { OnOk result (self.new.steps ≡ self.old.steps) }
-        ensures err { IfErr result (λ e. Fails e (reading (held (reference_in nested) at) self.old)) }
+        ensures err { IfErr result (λ e. Fails (error_of e self.new.refused) (reading (held (reference_in nested) at) self.old)) }
     {
         let class = self.name(alloc)?;
         let bytes = self.string()?;
@@ -264,7 +266,7 @@ impl<'a> Reader<'a> {
             return Ok(Held::Other(Span::of(class), Span::of(bytes)));
         }
         match Reader::remote_in(alloc, nested, bytes)? {
-            None => Err(refuse(Why::BadReference, at)),
+            None => Err(self.refuse(Why::BadReference, at)),
             Some(remote) => Ok(Held::Remote(remote)),
         }
     }
@@ -272,13 +274,25 @@ impl<'a> Reader<'a> {
     /// The version bytes and one value.
     #[cycle(read)]
     #[tactic(auto, unfolding(marshal_grammar::specs::Dumps::dump_with))]
-    pub fn dump_with(&mut self, alloc: Global, nested: bool) -> Result<(), ReadError>
+    pub fn dump_with(&mut self, alloc: Global, nested: bool) -> Result<(), Stop>
         ensures ok { OnOk result (reading (dump_with (reference_in nested)) self.old ≡ Ok (added self.old.steps self.new.steps, self.new.seen, self.new.rest)) }
         ensures adds { OnOk result (AddsOne self.old.steps self.new.steps) }
-        ensures err { IfErr result (λ e. Fails e (reading (dump_with (reference_in nested)) self.old)) }
+        ensures err { IfErr result (λ e. Fails (error_of e self.new.refused) (reading (dump_with (reference_in nested)) self.old)) }
     {
         self.version()?;
         self.value(alloc, nested, 128)
+    }
+
+    /// A dump, with the error that a caller sees.
+    pub fn dump(&mut self, alloc: Global) -> Result<(), ReadError>
+        ensures ok { OnOk result (reading (dump_with (reference_in false)) self.old ≡ Ok (added self.old.steps self.new.steps, self.new.seen, self.new.rest)) }
+        ensures adds { OnOk result (AddsOne self.old.steps self.new.steps) }
+        ensures err { IfErr result (λ e. Fails e (reading (dump_with (reference_in false)) self.old)) }
+    {
+        match self.dump_with(alloc, false) {
+            Ok(()) => Ok(()),
+            Err(stop) => Err(self.error(stop)),
+        }
     }
 
     /// The remote object whose inner dump these bytes begin with; `None` where they do not.
@@ -292,8 +306,8 @@ impl<'a> Reader<'a> {
         let mut inner = Reader::new(alloc, bytes)?;
         match inner.dump_with(alloc, true) {
             Ok(()) => inner.remote(alloc),
-            Err(ReadError::Memory) => Err(AllocError),
-            Err(ReadError::Refused(_refusal)) => Ok(None),
+            Err(Stop::Memory) => Err(AllocError),
+            Err(Stop::Refused) => Ok(None),
         }
     }
 }

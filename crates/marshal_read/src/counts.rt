@@ -3,54 +3,58 @@
 ghost use Rattle.std.specs.Prelude.{◌≡◌, ◌+◌, ◌/◌, ◌<◌, ◌≤◌, ◌^◌, length, IfOk, IfErr, OnOk, Ok, Err};
 ghost use Rattle.drb_tree.specs.Sizes.{heavy};
 ghost use Rattle.marshal_grammar.specs.Counts.{count, string, pair_count};
-ghost use Rattle.marshal_read.specs.Fails.{Fails, reading};
+ghost use Rattle.marshal_read.specs.Fails.{Fails, reading, error_of};
 
-use crate::error::{ReadError, refuse};
+use crate::error::Stop;
 use crate::reader::Reader;
 use marshal_grammar::refusal::Why;
 
 impl<'a> Reader<'a> {
     /// A count or length.
-    pub fn count(&mut self) -> Result<u64, ReadError>
+    #[inline(always)]
+    pub fn count(&mut self) -> Result<u64, Stop>
         ensures ok { IfOk result (λ n. reading count self.old ≡ Ok (n, self.new.seen, self.new.rest)) }
         ensures small { IfOk result (λ n. n < 2 ^ 63) }
         ensures kept { OnOk result (self.new.steps ≡ self.old.steps) }
-        ensures err { IfErr result (λ e. Fails e (reading count self.old)) }
+        ensures err { IfErr result (λ e. Fails (error_of e self.new.refused) (reading count self.old)) }
     {
         let at = self.at();
         let n = self.long()?;
         if n < 0 {
-            return Err(refuse(Why::Length, at));
+            return Err(self.refuse(Why::Length, at));
         }
         Ok(n as u64)
     }
 
     /// A length and so many bytes.
-    pub fn string(&mut self) -> Result<&'a [u8], ReadError>
+    #[inline(always)]
+    pub fn string(&mut self) -> Result<&'a [u8], Stop>
         ensures ok { IfOk result (λ s. reading string self.old ≡ Ok (s.now, self.new.seen, self.new.rest)) }
         ensures kept { OnOk result (self.new.steps ≡ self.old.steps) }
-        ensures err { IfErr result (λ e. Fails e (reading string self.old)) }
+        ensures err { IfErr result (λ e. Fails (error_of e self.new.refused) (reading string self.old)) }
     {
         let n = self.count()?;
         self.bytes(n)
     }
 
     /// A count of pairs, fields or variables.
-    pub fn pair_count(&mut self) -> Result<u64, ReadError>
+    #[inline(always)]
+    pub fn pair_count(&mut self) -> Result<u64, Stop>
         ensures ok { IfOk result (λ n. reading pair_count self.old ≡ Ok (n, self.new.seen, self.new.rest)) }
         ensures kept { OnOk result (self.new.steps ≡ self.old.steps) }
-        ensures err { IfErr result (λ e. Fails e (reading pair_count self.old)) }
+        ensures err { IfErr result (λ e. Fails (error_of e self.new.refused) (reading pair_count self.old)) }
     {
         let at = self.at();
         let n = self.count()?;
         if n > 4096 {
-            return Err(refuse(Why::TooManyPairs, at));
+            return Err(self.refuse(Why::TooManyPairs, at));
         }
         Ok(n)
     }
 }
 
 /// What something with these bytes counts.
+#[inline(always)]
 pub fn heavy(bytes: &[u8]) -> u64
     ensures { result ≡ heavy bytes.now }
 {

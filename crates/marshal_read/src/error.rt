@@ -1,8 +1,6 @@
 //! Why no value is read.
 
-ghost use Rattle.std.specs.Prelude.{◌≡◌};
-
-use marshal_grammar::refusal::{Refusal, Why};
+use marshal_grammar::refusal::Refusal;
 use std::alloc::AllocError;
 use thiserror::Error;
 
@@ -28,9 +26,20 @@ impl From<AllocError> for ReadError {
     }
 }
 
-/// The refusal at a place.
-pub fn refuse(why: Why, at: usize) -> ReadError
-    ensures { result ≡ ReadError.Refused (record { why = why; at = at }) }
-{
-    ReadError::Refused(Refusal { why, at })
+/// Why reading stops. The reader keeps the refusal, so that an answer is small.
+#[derive(Clone, Copy)]
+pub enum Stop {
+    Memory,
+    Refused,
+}
+
+impl From<AllocError> for Stop {
+    ghost use Rattle.std.specs.Prelude.{◌≡◌};
+    ghost use Rattle.marshal_read.specs.declared.error.Stop.TheVariants.{Memory};
+
+    ghost from_gives = { λ _ e. e ≡ Memory };
+
+    fn from(_: AllocError) -> Stop {
+        Stop::Memory
+    }
 }

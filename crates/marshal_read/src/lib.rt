@@ -52,7 +52,7 @@ pub fn read_dump(alloc: Global, bytes: &[u8]) -> Result<(Value, usize), ReadErro
     ensures every_refusal { (why : Why) (at : ℕ) → Refuses bytes.now why at → (result ≡ Err (ReadError.Refused (record { why = why; at = at }))) ⊎ (result ≡ Err ReadError.Memory) }
 {
     let mut reader = Reader::new(alloc, bytes)?;
-    reader.dump_with(alloc, false)?;
+    reader.dump(alloc)?;
     let value = reader.built_since(alloc, 0)?;
     Ok((value, bytes.len() - reader.left()))
 }

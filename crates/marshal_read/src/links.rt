@@ -4,11 +4,11 @@ ghost use Rattle.std.specs.Prelude.{◌≡◌, ℕ, ◌≤◌, ◌<◌, length, 
 ghost use Rattle.marshal_grammar.specs.declared.kind.Kind.TheVariants as kind;
 ghost use Rattle.marshal_grammar.specs.Counts.{count_nodes};
 ghost use Rattle.marshal_grammar.specs.Values.{link, too_deep, finished, object_at};
-ghost use Rattle.marshal_read.specs.Fails.{Fails, reading};
+ghost use Rattle.marshal_read.specs.Fails.{Fails, reading, error_of};
 ghost use Rattle.marshal_read.specs.Making.{value_of, cut, Stands, added, AddsOne};
 ghost use Rattle.marshal_read.specs.Links.{fits};
 
-use crate::error::{ReadError, refuse};
+use crate::error::Stop;
 use crate::reader::Reader;
 use marshal_grammar::kind::Kind;
 use marshal_grammar::refusal::Why;
@@ -16,11 +16,11 @@ use std::alloc::Global;
 
 impl<'a> Reader<'a> {
     /// After `@`: the number of a finished object, of which a copy stands here.
-    pub fn link(&mut self, alloc: Global, room: usize, at: usize) -> Result<(), ReadError>
+    pub fn link(&mut self, alloc: Global, room: usize, at: usize) -> Result<(), Stop>
         requires { room ≤ 128 }
         ensures ok { OnOk result (reading (link room at) self.old ≡ Ok (added self.old.steps self.new.steps, self.new.seen, self.new.rest)) }
         ensures adds { OnOk result (AddsOne self.old.steps self.new.steps) }
-        ensures err { IfErr result (λ e. Fails e (reading (link room at) self.old)) }
+        ensures err { IfErr result (λ e. Fails (error_of e self.new.refused) (reading (link room at) self.old)) }
     {
         let number = self.long()?;
         let range = self.finished(number, at)?;
@@ -29,14 +29,15 @@ impl<'a> Reader<'a> {
     }
 
     /// The steps of a finished object.
-    fn finished(&self, number: i64, at: usize) -> Result<(usize, usize), ReadError>
-        ensures ok { IfOk result (λ r. reading (finished at (object_at self.now.seen number)) self.now ≡ Ok (value_of (cut r self.now.steps), self.now.seen, self.now.rest)) }
-        ensures stands { IfOk result (λ r. Stands self.now.steps r) }
-        ensures err { IfErr result (λ e. Fails e (reading (finished at (object_at self.now.seen number)) self.now)) }
+    fn finished(&mut self, number: i64, at: usize) -> Result<(usize, usize), Stop>
+        ensures ok { IfOk result (λ r. reading (finished at (object_at self.old.seen number)) self.old ≡ Ok (value_of (cut r self.new.steps), self.new.seen, self.new.rest)) }
+        ensures kept { OnOk result (self.new.steps ≡ self.old.steps) }
+        ensures stands { IfOk result (λ r. Stands self.new.steps r) }
+        ensures err { IfErr result (λ e. Fails (error_of e self.new.refused) (reading (finished at (object_at self.old.seen number)) self.old)) }
     {
         match self.object(number) {
-            None => Err(refuse(Why::ObjectLink, at)),
-            Some(None) => Err(refuse(Why::Cyclic, at)),
+            None => Err(self.refuse(Why::ObjectLink, at)),
+            Some(None) => Err(self.refuse(Why::Cyclic, at)),
             Some(Some(range)) => Ok(range),
         }
     }
@@ -48,32 +49,32 @@ impl<'a> Reader<'a> {
         room: usize,
         at: usize,
         range: (usize, usize),
-    ) -> Result<(), ReadError>
+    ) -> Result<(), Stop>
         requires room { room ≤ 128 }
         requires stands { Stands self.old.steps range }
         ensures ok { OnOk result (reading (fits room at (value_of (cut range self.old.steps))) self.old ≡ Ok (value_of (cut range self.old.steps), self.new.seen, self.new.rest)) }
         ensures kept { OnOk result (self.new.steps ≡ self.old.steps) }
-        ensures err { IfErr result (λ e. Fails e (reading (fits room at (value_of (cut range self.old.steps))) self.old)) }
+        ensures err { IfErr result (λ e. Fails (error_of e self.new.refused) (reading (fits room at (value_of (cut range self.old.steps))) self.old)) }
     {
         let value = self.built(alloc, range)?;
         let depth = value.depth();
         let nodes = value.nodes();
         drop(value);
         if depth > room as u64 {
-            return Err(refuse(Why::TooDeep, at));
+            return Err(self.refuse(Why::TooDeep, at));
         }
         self.count_nodes(at, nodes)
     }
 
     /// No level is left: every value is too deep, and a link once its object is known.
-    pub fn too_deep(&mut self, alloc: Global, kind: Kind, at: usize) -> Result<(), ReadError>
+    pub fn too_deep(&mut self, alloc: Global, kind: Kind, at: usize) -> Result<(), Stop>
         ensures ok { OnOk result (reading (too_deep kind at) self.old ≡ Ok (added self.old.steps self.new.steps, self.new.seen, self.new.rest)) }
         ensures adds { OnOk result (AddsOne self.old.steps self.new.steps) }
-        ensures err { IfErr result (λ e. Fails e (reading (too_deep kind at) self.old)) }
+        ensures err { IfErr result (λ e. Fails (error_of e self.new.refused) (reading (too_deep kind at) self.old)) }
     {
         match kind {
             Kind::Link => self.link(alloc, 0, at),
-            _ => Err(refuse(Why::TooDeep, at)),
+            _ => Err(self.refuse(Why::TooDeep, at)),
         }
     }
 }

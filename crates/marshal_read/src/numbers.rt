@@ -3,30 +3,30 @@
 ghost use Rattle.std.specs.Prelude.{◌≡◌, ℕ, ◌+◌, ◌*◌, ◌<◌, ◌≤◌, ◌^◌, ◌==◌, [], ◌∷◌, length, IfOk, IfErr, OnOk, Ok, Err, MatchOption, true, false};
 ghost use Rattle.marshal_grammar.specs.Longs.{little};
 ghost use Rattle.marshal_grammar.specs.Values.{big_int, is_i128, signed};
-ghost use Rattle.marshal_read.specs.Fails.{Fails, reading};
+ghost use Rattle.marshal_read.specs.Fails.{Fails, reading, error_of};
 ghost use Rattle.marshal_read.specs.Making.{added, AddsOne};
 
-use crate::error::{ReadError, refuse};
+use crate::error::Stop;
 use crate::reader::Reader;
 use crate::steps::Step;
 use marshal_grammar::refusal::Why;
 
 impl<'a> Reader<'a> {
     /// After `l`: a sign, a long n and 2n bytes.
-    pub fn big_int(&mut self, at: usize) -> Result<(), ReadError>
+    pub fn big_int(&mut self, at: usize) -> Result<(), Stop>
         ensures ok { OnOk result (reading (big_int at) self.old ≡ Ok (added self.old.steps self.new.steps, self.new.seen, self.new.rest)) }
         ensures adds { OnOk result (AddsOne self.old.steps self.new.steps) }
-        ensures err { IfErr result (λ e. Fails e (reading (big_int at) self.old)) }
+        ensures err { IfErr result (λ e. Fails (error_of e self.new.refused) (reading (big_int at) self.old)) }
     {
         let place = self.at();
         let sign = self.byte()?;
         if sign != b'+' && sign != b'-' {
-            return Err(refuse(Why::BadType(sign), place));
+            return Err(self.refuse(Why::BadType(sign), place));
         }
         let n = self.count()?;
         let bytes = self.bytes(2 * n)?;
         let Some(number) = signed(sign, bytes) else {
-            return Err(refuse(Why::BigInteger, at));
+            return Err(self.refuse(Why::BigInteger, at));
         };
         self.count_nodes(at, 1)?;
         Ok(self.whole(Step::Int(number))?)

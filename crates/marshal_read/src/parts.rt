@@ -2,11 +2,11 @@
 
 ghost use Rattle.std.specs.Prelude.{◌≡◌, ℕ, ◌+◌, ◌≤◌, ◌<◌, suc, [], ◌∷◌, ◌++◌, length, IfOk, IfErr, OnOk, Ok, Err};
 ghost use Rattle.marshal_grammar.specs.Values.{values, pairs, fields};
-ghost use Rattle.marshal_read.specs.Fails.{Fails, reading};
+ghost use Rattle.marshal_read.specs.Fails.{Fails, reading, error_of};
 ghost use Rattle.marshal_read.specs.Making.{values_in, pairs_in, fields_in, AddsValues, AddsPairs, AddsFields, key_in, name_in};
 ghost use Rattle.marshal_read.specs.Scopes.{part_in};
 
-use crate::error::{ReadError, refuse};
+use crate::error::Stop;
 use crate::reader::Reader;
 use crate::span::Span;
 use crate::steps::Step;
@@ -18,17 +18,11 @@ use std::alloc::Global;
 impl<'a> Reader<'a> {
     /// `n` values.
     #[cycle(read)]
-    pub fn values(
-        &mut self,
-        alloc: Global,
-        nested: bool,
-        room: usize,
-        n: u64,
-    ) -> Result<(), ReadError>
+    pub fn values(&mut self, alloc: Global, nested: bool, room: usize, n: u64) -> Result<(), Stop>
         requires { room ≤ 128 }
         ensures ok { OnOk result (reading (values (part_in nested room) n) self.old ≡ Ok (values_in self.old.steps self.new.steps, self.new.seen, self.new.rest)) }
         ensures adds { OnOk result (AddsValues self.old.steps self.new.steps n) }
-        ensures err { IfErr result (λ e. Fails e (reading (values (part_in nested room) n) self.old)) }
+        ensures err { IfErr result (λ e. Fails (error_of e self.new.refused) (reading (values (part_in nested room) n) self.old)) }
     {
         for _ in 0..n {
             self.value(alloc, nested, room)?;
@@ -38,17 +32,11 @@ impl<'a> Reader<'a> {
 
     /// `n` pairs. No key is the same as an earlier one.
     #[cycle(read)]
-    pub fn pairs(
-        &mut self,
-        alloc: Global,
-        nested: bool,
-        room: usize,
-        n: u64,
-    ) -> Result<(), ReadError>
+    pub fn pairs(&mut self, alloc: Global, nested: bool, room: usize, n: u64) -> Result<(), Stop>
         requires { room ≤ 128 }
         ensures ok { OnOk result (reading (pairs (part_in nested room) [] n) self.old ≡ Ok (pairs_in self.old.steps self.new.steps, self.new.seen, self.new.rest)) }
         ensures adds { OnOk result (AddsPairs self.old.steps self.new.steps n) }
-        ensures err { IfErr result (λ e. Fails e (reading (pairs (part_in nested room) [] n) self.old)) }
+        ensures err { IfErr result (λ e. Fails (error_of e self.new.refused) (reading (pairs (part_in nested room) [] n) self.old)) }
     {
         let mut keys = Items::new(alloc);
         for _ in 0..n {
@@ -57,7 +45,7 @@ impl<'a> Reader<'a> {
             self.value(alloc, nested, room)?;
             let key = self.built_since(alloc, start)?;
             if has_key(&key, keys.as_slice()) {
-                return Err(refuse(Why::DuplicateKey, at));
+                return Err(self.refuse(Why::DuplicateKey, at));
             }
             keys.push(key)?;
             self.value(alloc, nested, room)?; // what the key has
@@ -68,24 +56,18 @@ impl<'a> Reader<'a> {
 
     /// `n` fields or variables, each a name and a value. No name stands twice.
     #[cycle(read)]
-    pub fn fields(
-        &mut self,
-        alloc: Global,
-        nested: bool,
-        room: usize,
-        n: u64,
-    ) -> Result<(), ReadError>
+    pub fn fields(&mut self, alloc: Global, nested: bool, room: usize, n: u64) -> Result<(), Stop>
         requires { room ≤ 128 }
         ensures ok { OnOk result (reading (fields (part_in nested room) [] n) self.old ≡ Ok (fields_in self.old.steps self.new.steps, self.new.seen, self.new.rest)) }
         ensures adds { OnOk result (AddsFields self.old.steps self.new.steps n) }
-        ensures err { IfErr result (λ e. Fails e (reading (fields (part_in nested room) [] n) self.old)) }
+        ensures err { IfErr result (λ e. Fails (error_of e self.new.refused) (reading (fields (part_in nested room) [] n) self.old)) }
     {
         let mut names = Items::new(alloc);
         for _ in 0..n {
             let at = self.at();
             let name = self.name(alloc)?;
             if has_name(name, names.as_slice()) {
-                return Err(refuse(Why::DuplicateKey, at));
+                return Err(self.refuse(Why::DuplicateKey, at));
             }
             names.push(Span::of(name))?;
             self.value(alloc, nested, room)?;

@@ -4,14 +4,14 @@ ghost use Rattle.std.specs.Prelude.{◌≡◌, ℕ, ◌+◌, ◌<◌, ◌^◌, [
 ghost use Rattle.marshal_grammar.specs.Grammar.{byte, bytes, long};
 ghost use Rattle.marshal_grammar.specs.Contexts.{opening, add_symbol, begin_object, add_object, finish_object};
 ghost use Rattle.marshal_grammar.specs.declared.refusal.Why.TheVariants as why;
-ghost use Rattle.marshal_read.specs.Fails.{Fails, reading};
+ghost use Rattle.marshal_read.specs.Fails.{Fails, reading, error_of};
 ghost use Rattle.marshal_read.specs.Making.{nothing};
 
-use crate::error::{ReadError, refuse};
+use crate::error::{ReadError, Stop};
 use crate::span::Span;
 use crate::steps::Step;
 use marshal_grammar::long::long_at;
-use marshal_grammar::refusal::Why;
+use marshal_grammar::refusal::{Refusal, Why};
 use sqlite_items::Items;
 use std::alloc::{AllocError, Global};
 use std::marker::Model;
@@ -25,6 +25,8 @@ pub struct Reader<'a> {
     pub(crate) objects: Items<Option<(usize, usize)>>,
     pub(crate) nodes: u64,
     pub(crate) steps: Items<Step<'a>>,
+    /// The last refusal.
+    pub(crate) refused: Refusal,
 }
 
 impl<'a> Model for Reader<'a> {
@@ -47,7 +49,7 @@ impl<'a> Reader<'a> {
     /// A reader at the front of the bytes. It has room for a step for each eight bytes, and for 65,536 at most.
     pub fn new(alloc: Global, bytes: &'a [u8]) -> Result<Reader<'a>, AllocError>
         requires { length bytes.now < 2 ^ 63 }
-        ensures { IfOk result (λ r. r ≡ record { rest = bytes.entry.now; seen = opening; steps = [] }) }
+        ensures { IfOk result (λ r. r ≡ record { rest = bytes.entry.now; seen = opening; steps = []; refused = record { why = why.Short; at = 0 } }) }
     {
         let steps = Items::from_vec(Vec::with_capacity(alloc, (bytes.len() / 8).min(65536))?);
         Ok(Reader {
@@ -57,10 +59,15 @@ impl<'a> Reader<'a> {
             objects: Items::new(alloc),
             nodes: 0,
             steps,
+            refused: Refusal {
+                why: Why::Short,
+                at: 0,
+            },
         })
     }
 
     /// The place reached.
+    #[inline(always)]
     pub fn at(&self) -> usize
         ensures { result ≡ self.now.seen.at }
     {
@@ -68,6 +75,7 @@ impl<'a> Reader<'a> {
     }
 
     /// How many bytes are left.
+    #[inline(always)]
     pub fn left(&self) -> usize
         ensures left { result ≡ length self.now.rest }
         ensures fits { result < 2 ^ 63 }
@@ -75,22 +83,44 @@ impl<'a> Reader<'a> {
         self.rest.len()
     }
 
-    /// A byte is missing.
-    pub fn short(&self) -> ReadError
-        ensures { result ≡ ReadError.Refused (record { why = why.Short; at = self.now.seen.at + length self.now.rest }) }
+    /// Reading stops: the bytes are refused for this reason at this place.
+    #[inline(always)]
+    pub fn refuse(&mut self, why: Why, at: usize) -> Stop
+        ensures stop { result ≡ Stop.Refused }
+        ensures refused { self.new ≡ record self.old { refused = record { why = why; at = at } } }
     {
-        refuse(Why::Short, self.at + self.rest.len())
+        self.refused = Refusal { why, at };
+        Stop::Refused
+    }
+
+    /// What a stop says to the caller.
+    pub fn error(&self, stop: Stop) -> ReadError
+        ensures { result ≡ error_of stop self.now.refused }
+    {
+        match stop {
+            Stop::Memory => ReadError::Memory,
+            Stop::Refused => ReadError::Refused(self.refused),
+        }
+    }
+
+    /// Reading stops: a byte is missing.
+    pub fn short(&mut self) -> Stop
+        ensures stop { result ≡ Stop.Refused }
+        ensures refused { self.new ≡ record self.old { refused = record { why = why.Short; at = self.old.seen.at + length self.old.rest } } }
+    {
+        let at = self.at + self.rest.len();
+        self.refuse(Why::Short, at)
     }
 
     /// The next byte.
     #[inline(always)]
-    pub fn byte(&mut self) -> Result<u8, ReadError>
+    pub fn byte(&mut self) -> Result<u8, Stop>
         ensures ok { IfOk result (λ b. reading byte self.old ≡ Ok (b, self.new.seen, self.new.rest)) }
         ensures kept { OnOk result (self.new.steps ≡ self.old.steps) }
-        ensures err { IfErr result (λ e. Fails e (reading byte self.old)) }
+        ensures err { IfErr result (λ e. Fails (error_of e self.new.refused) (reading byte self.old)) }
     {
         let Some((first, more)) = self.rest.split_first() else {
-            return Err(refuse(Why::Short, self.at));
+            return Err(self.refuse(Why::Short, self.at));
         };
         self.rest = more;
         self.at += 1;
@@ -98,13 +128,14 @@ impl<'a> Reader<'a> {
     }
 
     /// The next `n` bytes.
-    pub fn bytes(&mut self, n: u64) -> Result<&'a [u8], ReadError>
+    #[inline(always)]
+    pub fn bytes(&mut self, n: u64) -> Result<&'a [u8], Stop>
         ensures ok { IfOk result (λ b. reading (bytes n) self.old ≡ Ok (b.now, self.new.seen, self.new.rest)) }
         ensures kept { OnOk result (self.new.steps ≡ self.old.steps) }
-        ensures err { IfErr result (λ e. Fails e (reading (bytes n) self.old)) }
+        ensures err { IfErr result (λ e. Fails (error_of e self.new.refused) (reading (bytes n) self.old)) }
     {
         if (self.rest.len() as u64) < n {
-            return Err(refuse(Why::Short, self.at + self.rest.len()));
+            return Err(self.refuse(Why::Short, self.at + self.rest.len()));
         }
         let (these, more) = self.rest.split_at(n as usize);
         self.rest = more;
@@ -114,10 +145,10 @@ impl<'a> Reader<'a> {
 
     /// The next long.
     #[inline(always)]
-    pub fn long(&mut self) -> Result<i64, ReadError>
+    pub fn long(&mut self) -> Result<i64, Stop>
         ensures ok { IfOk result (λ n. reading long self.old ≡ Ok (n, self.new.seen, self.new.rest)) }
         ensures kept { OnOk result (self.new.steps ≡ self.old.steps) }
-        ensures err { IfErr result (λ e. Fails e (reading long self.old)) }
+        ensures err { IfErr result (λ e. Fails (error_of e self.new.refused) (reading long self.old)) }
     {
         match long_at(self.rest, 0) {
             Ok((n, size)) => {
@@ -125,7 +156,7 @@ impl<'a> Reader<'a> {
                 self.at += size;
                 Ok(n)
             }
-            Err(why) => Err(refuse(why, self.at + self.rest.len())),
+            Err(why) => Err(self.refuse(why, self.at + self.rest.len())),
         }
     }
 }

@@ -6,12 +6,12 @@ ghost use Rattle.marshal_grammar.specs.Dumps.{version};
 ghost use Rattle.marshal_grammar.specs.Trees.{remote_of, remote_from, id_of};
 ghost use Rattle.marshal_grammar.specs.Values.{whole, held_value, held_nodes};
 ghost use Rattle.drb_value.specs.View.{layer};
-ghost use Rattle.marshal_read.specs.Fails.{Fails, reading};
+ghost use Rattle.marshal_read.specs.Fails.{Fails, reading, error_of};
 ghost use Rattle.marshal_read.specs.Making.{made, value_of, MakesOne, HoldsFields};
 ghost use Rattle.marshal_read.specs.Scopes.{held_is, held_steps, Foreign};
 
 use crate::counts::heavy;
-use crate::error::{ReadError, refuse};
+use crate::error::Stop;
 use crate::reader::Reader;
 use crate::span::Span;
 use crate::steps::{Raw, Step};
@@ -31,16 +31,16 @@ pub enum Held<'a> {
 
 impl<'a> Reader<'a> {
     /// The byte `04` and a byte `00` to `08`.
-    pub fn version(&mut self) -> Result<(), ReadError>
+    pub fn version(&mut self) -> Result<(), Stop>
         ensures ok { OnOk result (reading version self.old ≡ Ok (tt, self.new.seen, self.new.rest)) }
         ensures kept { OnOk result (self.new.steps ≡ self.old.steps) }
-        ensures err { IfErr result (λ e. Fails e (reading version self.old)) }
+        ensures err { IfErr result (λ e. Fails (error_of e self.new.refused) (reading version self.old)) }
     {
         if self.byte()? != 4 {
-            return Err(refuse(Why::Version, 0));
+            return Err(self.refuse(Why::Version, 0));
         }
         if self.byte()? > 8 {
-            return Err(refuse(Why::Version, 1));
+            return Err(self.refuse(Why::Version, 1));
         }
         Ok(())
     }

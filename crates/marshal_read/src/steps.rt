@@ -1,10 +1,11 @@
 //! The steps that make a value.
 
-ghost use Rattle.std.specs.Prelude.{◌≡◌, IfOk};
+ghost use Rattle.std.specs.Prelude.{◌≡◌, [], ◌∷◌, ◌++◌, IfOk, OnOk, OnErr};
+ghost use Rattle.marshal_read.specs.Kept.{kept};
 
 use crate::span::Span;
 use drb_tree::{Code, Remote};
-use sqlite_items::Boxed;
+use sqlite_items::{Boxed, Items};
 use std::alloc::{AllocError, Global};
 
 /// What a class dumped of its object as bytes.
@@ -85,4 +86,76 @@ impl<'a> Step<'a> {
             Step::Wrapped(class) => Step::Wrapped(class.copy()),
         })
     }
+}
+
+/// The forms of the steps that are kept most often. What such a step is of stands beside its form.
+#[derive(Clone, Copy)]
+enum Form {
+    Nil,
+    True,
+    False,
+    Int,
+    Sym,
+    Binary,
+    Ascii,
+    Utf8,
+    List,
+}
+
+/// Adds a step at the end.
+#[inline(always)]
+pub fn add<'a>(steps: &mut Items<Step<'a>>, step: Step<'a>) -> Result<(), AllocError>
+    ensures ok { OnOk result (steps.new ≡ steps.old ++ step.entry ∷ []) }
+    ensures err { OnErr result (steps.new ≡ steps.old) }
+{
+    match step {
+        Step::Nil => keep(steps, Form::Nil, 0, 0, &[]),
+        Step::Bool(true) => keep(steps, Form::True, 0, 0, &[]),
+        Step::Bool(false) => keep(steps, Form::False, 0, 0, &[]),
+        Step::Int(number) => keep(steps, Form::Int, number, 0, &[]),
+        Step::Sym(bytes) => keep(steps, Form::Sym, 0, 0, bytes.as_slice()),
+        Step::Text(bytes, Code::Binary) => keep(steps, Form::Binary, 0, 0, bytes.as_slice()),
+        Step::Text(bytes, Code::Ascii) => keep(steps, Form::Ascii, 0, 0, bytes.as_slice()),
+        Step::Text(bytes, Code::Utf8) => keep(steps, Form::Utf8, 0, 0, bytes.as_slice()),
+        Step::List(n) => keep(steps, Form::List, 0, n, &[]),
+        other => keep_other(steps, other),
+    }
+}
+
+/// Adds the step of this form. It is handed over as words that fit the processor's registers: a step that is stored in
+/// parts and loaded as a whole makes the processor wait.
+#[inline(never)]
+fn keep<'a>(
+    steps: &mut Items<Step<'a>>,
+    form: Form,
+    number: i128,
+    count: usize,
+    bytes: &'a [u8],
+) -> Result<(), AllocError>
+    ensures ok { OnOk result (steps.new ≡ steps.old ++ kept form number count bytes.now ∷ []) }
+    ensures err { OnErr result (steps.new ≡ steps.old) }
+{
+    let step = match form {
+        Form::Nil => Step::Nil,
+        Form::True => Step::Bool(true),
+        Form::False => Step::Bool(false),
+        Form::Int => Step::Int(number),
+        Form::Sym => Step::Sym(Span::of(bytes)),
+        Form::Binary => Step::Text(Span::of(bytes), Code::Binary),
+        Form::Ascii => Step::Text(Span::of(bytes), Code::Ascii),
+        Form::Utf8 => Step::Text(Span::of(bytes), Code::Utf8),
+        Form::List => Step::List(count),
+    };
+    steps.push(step)
+}
+
+/// Adds any step at the end, in the place of one that `keep` adds.
+fn keep_other<'a>(steps: &mut Items<Step<'a>>, step: Step<'a>) -> Result<(), AllocError>
+    ensures ok { OnOk result (steps.new ≡ steps.old ++ step.entry ∷ []) }
+    ensures err { OnErr result (steps.new ≡ steps.old) }
+{
+    let at = steps.len();
+    keep(steps, Form::Nil, 0, 0, &[])?;
+    steps.set(at, step);
+    Ok(())
 }

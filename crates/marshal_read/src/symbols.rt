@@ -9,11 +9,11 @@ ghost use Rattle.marshal_grammar.specs.Symbols.{plain_symbol, linked_symbol, is_
 ghost use Rattle.marshal_grammar.specs.Grammar.{byte};
 ghost use Rattle.marshal_grammar.specs.Kinds.{kind_of};
 ghost use Rattle.marshal_grammar.specs.Reading.{read, next};
-ghost use Rattle.marshal_read.specs.Fails.{Fails, reading};
+ghost use Rattle.marshal_read.specs.Fails.{Fails, reading, error_of};
 ghost use Rattle.marshal_read.specs.Rounds.{outcome, rounds_left, one_round};
 
 use crate::counts::heavy;
-use crate::error::{ReadError, refuse};
+use crate::error::Stop;
 use crate::reader::Reader;
 use crate::span::Span;
 use drb_tree::Code;
@@ -49,77 +49,81 @@ fn is_name(bytes: &[u8], code: Code) -> bool
 
 impl<'a> Reader<'a> {
     /// After `:`: a length and bytes, which are ASCII.
-    pub fn plain_symbol(&mut self, at: usize) -> Result<&'a [u8], ReadError>
+    pub fn plain_symbol(&mut self, at: usize) -> Result<&'a [u8], Stop>
         ensures ok { IfOk result (λ s. reading (plain_symbol at) self.old ≡ Ok (s.now, self.new.seen, self.new.rest)) }
         ensures kept { OnOk result (self.new.steps ≡ self.old.steps) }
-        ensures err { IfErr result (λ e. Fails e (reading (plain_symbol at) self.old)) }
+        ensures err { IfErr result (λ e. Fails (error_of e self.new.refused) (reading (plain_symbol at) self.old)) }
     {
         let s = self.string()?;
         self.add_symbol(s)?;
         if !all_ascii(s) {
-            return Err(refuse(Why::Name, at));
+            return Err(self.refuse(Why::Name, at));
         }
         Ok(s)
     }
 
     /// After `;`: the number of a symbol.
-    pub fn linked_symbol(&mut self, at: usize) -> Result<&'a [u8], ReadError>
+    #[inline(always)]
+    pub fn linked_symbol(&mut self, at: usize) -> Result<&'a [u8], Stop>
         ensures ok { IfOk result (λ s. reading (linked_symbol at) self.old ≡ Ok (s.now, self.new.seen, self.new.rest)) }
         ensures kept { OnOk result (self.new.steps ≡ self.old.steps) }
-        ensures err { IfErr result (λ e. Fails e (reading (linked_symbol at) self.old)) }
+        ensures err { IfErr result (λ e. Fails (error_of e self.new.refused) (reading (linked_symbol at) self.old)) }
     {
         let n = self.long()?;
         match self.symbol_at(n) {
-            None => Err(refuse(Why::SymbolLink, at)),
+            None => Err(self.refuse(Why::SymbolLink, at)),
             Some(s) => Ok(s),
         }
     }
 
     /// How many encoding variables follow: none or one.
-    fn encoding_count(&mut self, at: usize) -> Result<u64, ReadError>
+    #[inline(always)]
+    fn encoding_count(&mut self, at: usize) -> Result<u64, Stop>
         ensures ok { IfOk result (λ n. reading (encoding_count at) self.old ≡ Ok (n, self.new.seen, self.new.rest)) }
         ensures kept { OnOk result (self.new.steps ≡ self.old.steps) }
-        ensures err { IfErr result (λ e. Fails e (reading (encoding_count at) self.old)) }
+        ensures err { IfErr result (λ e. Fails (error_of e self.new.refused) (reading (encoding_count at) self.old)) }
     {
         let n = self.count()?;
         if n > 1 {
-            return Err(refuse(Why::Encoding, at));
+            return Err(self.refuse(Why::Encoding, at));
         }
         Ok(n)
     }
 
     /// After the name of an encoding variable, which is `E`: its value.
-    fn encoding_value(&mut self, at: usize, name: &[u8]) -> Result<Code, ReadError>
+    #[inline(always)]
+    fn encoding_value(&mut self, at: usize, name: &[u8]) -> Result<Code, Stop>
         ensures ok { IfOk result (λ c. reading (encoding_value at name.now) self.old ≡ Ok (c, self.new.seen, self.new.rest)) }
         ensures kept { OnOk result (self.new.steps ≡ self.old.steps) }
-        ensures err { IfErr result (λ e. Fails e (reading (encoding_value at name.now) self.old)) }
+        ensures err { IfErr result (λ e. Fails (error_of e self.new.refused) (reading (encoding_value at name.now) self.old)) }
     {
         if name != b"E".as_slice() {
-            return Err(refuse(Why::Encoding, at));
+            return Err(self.refuse(Why::Encoding, at));
         }
         match self.byte()? {
             b'T' => Ok(Code::Utf8),
             b'F' => Ok(Code::Ascii),
-            _ => Err(refuse(Why::Encoding, at)),
+            _ => Err(self.refuse(Why::Encoding, at)),
         }
     }
 
     /// A symbol is read: it is the `E` of the last that waits, which then is read too.
+    #[inline(always)]
     fn ended(
         &mut self,
         waiting: &mut Items<(usize, Span<'a>)>,
         symbol: &'a [u8],
-    ) -> Result<&'a [u8], ReadError>
+    ) -> Result<&'a [u8], Stop>
         ensures ok { IfOk result (λ s. reading (ended (reverse waiting.old) symbol.now) self.old ≡ Ok (inr s.now, self.new.seen, self.new.rest)) }
         ensures kept { OnOk result (self.new.steps ≡ self.old.steps) }
-        ensures err { IfErr result (λ e. Fails e (reading (ended (reverse waiting.old) symbol.now) self.old)) }
+        ensures err { IfErr result (λ e. Fails (error_of e self.new.refused) (reading (ended (reverse waiting.old) symbol.now) self.old)) }
     {
         let mut symbol = symbol;
         while let Some((at, waited)) = waiting.pop() {
             let code = self.encoding_value(at, symbol)?;
             symbol = waited.as_slice();
             if !is_name(symbol, code) {
-                return Err(refuse(Why::Name, at));
+                return Err(self.refuse(Why::Name, at));
             }
         }
         Ok(symbol)
@@ -130,22 +134,22 @@ impl<'a> Reader<'a> {
         &mut self,
         at: usize,
         waiting: &mut Items<(usize, Span<'a>)>,
-    ) -> Result<Option<&'a [u8]>, ReadError>
+    ) -> Result<Option<&'a [u8]>, Stop>
         ensures ok { IfOk result (λ s. reading (marked_round at (reverse waiting.old)) self.old ≡ Ok (outcome (option_copied s) (reverse waiting.new), self.new.seen, self.new.rest)) }
         ensures kept { OnOk result (self.new.steps ≡ self.old.steps) }
-        ensures err { IfErr result (λ e. Fails e (reading (marked_round at (reverse waiting.old)) self.old)) }
+        ensures err { IfErr result (λ e. Fails (error_of e self.new.refused) (reading (marked_round at (reverse waiting.old)) self.old)) }
     {
         let place = self.at();
         let mark = self.byte()?;
         if mark != b':' {
-            return Err(refuse(Why::BadType(mark), place));
+            return Err(self.refuse(Why::BadType(mark), place));
         }
         let s = self.string()?;
         self.add_symbol(s)?;
         let n = self.encoding_count(at)?;
         if n == 0 {
             if !is_name(s, Code::Binary) {
-                return Err(refuse(Why::Name, at));
+                return Err(self.refuse(Why::Name, at));
             }
             return Ok(Some(self.ended(waiting, s)?));
         }
@@ -154,15 +158,16 @@ impl<'a> Reader<'a> {
     }
 
     /// What the first byte of a symbol says.
+    #[inline(always)]
     fn symbol_by(
         &mut self,
         at: usize,
         first: u8,
         waiting: &mut Items<(usize, Span<'a>)>,
-    ) -> Result<Option<&'a [u8]>, ReadError>
+    ) -> Result<Option<&'a [u8]>, Stop>
         ensures ok { IfOk result (λ s. reading (symbol_by at (reverse waiting.old) first (kind_of first)) self.old ≡ Ok (outcome (option_copied s) (reverse waiting.new), self.new.seen, self.new.rest)) }
         ensures kept { OnOk result (self.new.steps ≡ self.old.steps) }
-        ensures err { IfErr result (λ e. Fails e (reading (symbol_by at (reverse waiting.old) first (kind_of first)) self.old)) }
+        ensures err { IfErr result (λ e. Fails (error_of e self.new.refused) (reading (symbol_by at (reverse waiting.old) first (kind_of first)) self.old)) }
     {
         match kind_of(first) {
             Some(Kind::Symbol) => {
@@ -174,18 +179,19 @@ impl<'a> Reader<'a> {
                 Ok(Some(self.ended(waiting, s)?))
             }
             Some(Kind::Marked) => self.marked_round(at, waiting),
-            _ => Err(refuse(Why::BadType(first), at)),
+            _ => Err(self.refuse(Why::BadType(first), at)),
         }
     }
 
     /// One round of a symbol: its first byte and what that says.
+    #[inline(always)]
     fn symbol_round(
         &mut self,
         waiting: &mut Items<(usize, Span<'a>)>,
-    ) -> Result<Option<&'a [u8]>, ReadError>
+    ) -> Result<Option<&'a [u8]>, Stop>
         ensures ok { IfOk result (λ s. reading (one_round (reverse waiting.old)) self.old ≡ Ok (outcome (option_copied s) (reverse waiting.new), self.new.seen, self.new.rest)) }
         ensures kept { OnOk result (self.new.steps ≡ self.old.steps) }
-        ensures err { IfErr result (λ e. Fails e (reading (one_round (reverse waiting.old)) self.old)) }
+        ensures err { IfErr result (λ e. Fails (error_of e self.new.refused) (reading (one_round (reverse waiting.old)) self.old)) }
     {
         let at = self.at();
         let first = self.byte()?;
@@ -193,10 +199,10 @@ impl<'a> Reader<'a> {
     }
 
     /// A symbol: `:`, `;` or `I:`.
-    pub fn symbol(&mut self, alloc: Global) -> Result<&'a [u8], ReadError>
+    pub fn symbol(&mut self, alloc: Global) -> Result<&'a [u8], Stop>
         ensures ok { IfOk result (λ s. reading symbol self.old ≡ Ok (s.now, self.new.seen, self.new.rest)) }
         ensures kept { OnOk result (self.new.steps ≡ self.old.steps) }
-        ensures err { IfErr result (λ e. Fails e (reading symbol self.old)) }
+        ensures err { IfErr result (λ e. Fails (error_of e self.new.refused) (reading symbol self.old)) }
     {
         let mut waiting = Items::new(alloc);
         for _ in 0..self.left() + 1 {
@@ -208,10 +214,10 @@ impl<'a> Reader<'a> {
     }
 
     /// A class symbol, or the name of a field or variable: it counts by its bytes at its place.
-    pub fn name(&mut self, alloc: Global) -> Result<&'a [u8], ReadError>
+    pub fn name(&mut self, alloc: Global) -> Result<&'a [u8], Stop>
         ensures ok { IfOk result (λ s. reading name self.old ≡ Ok (s.now, self.new.seen, self.new.rest)) }
         ensures kept { OnOk result (self.new.steps ≡ self.old.steps) }
-        ensures err { IfErr result (λ e. Fails e (reading name self.old)) }
+        ensures err { IfErr result (λ e. Fails (error_of e self.new.refused) (reading name self.old)) }
     {
         let at = self.at();
         let s = self.symbol(alloc)?;
@@ -220,10 +226,11 @@ impl<'a> Reader<'a> {
     }
 
     /// Encoding variables: none, binary; one, the symbol `E` and `T` or `F`.
-    pub fn encoding(&mut self, alloc: Global, at: usize) -> Result<Code, ReadError>
+    #[inline(always)]
+    pub fn encoding(&mut self, alloc: Global, at: usize) -> Result<Code, Stop>
         ensures ok { IfOk result (λ c. reading (encoding at) self.old ≡ Ok (c, self.new.seen, self.new.rest)) }
         ensures kept { OnOk result (self.new.steps ≡ self.old.steps) }
-        ensures err { IfErr result (λ e. Fails e (reading (encoding at) self.old)) }
+        ensures err { IfErr result (λ e. Fails (error_of e self.new.refused) (reading (encoding at) self.old)) }
     {
         if self.encoding_count(at)? == 0 {
             return Ok(Code::Binary);
@@ -233,16 +240,16 @@ impl<'a> Reader<'a> {
     }
 
     /// After `I:` of a value: a length and bytes, and encoding variables.
-    pub fn marked_symbol(&mut self, alloc: Global, at: usize) -> Result<&'a [u8], ReadError>
+    pub fn marked_symbol(&mut self, alloc: Global, at: usize) -> Result<&'a [u8], Stop>
         ensures ok { IfOk result (λ s. reading (marked_symbol at) self.old ≡ Ok (s.now, self.new.seen, self.new.rest)) }
         ensures kept { OnOk result (self.new.steps ≡ self.old.steps) }
-        ensures err { IfErr result (λ e. Fails e (reading (marked_symbol at) self.old)) }
+        ensures err { IfErr result (λ e. Fails (error_of e self.new.refused) (reading (marked_symbol at) self.old)) }
     {
         let s = self.string()?;
         self.add_symbol(s)?;
         let code = self.encoding(alloc, at)?;
         if !is_name(s, code) {
-            return Err(refuse(Why::Name, at));
+            return Err(self.refuse(Why::Name, at));
         }
         Ok(s)
     }

@@ -1,21 +1,22 @@
 //! What the bytes so far leave: symbols, objects, nodes, and the steps that make what was read.
 
-ghost use Rattle.std.specs.Prelude.{◌≡◌, ℕ, ◌+◌, ◌≤◌, ◌<◌, ◌^◌, [], ◌∷◌, ◌++◌, length, drop, IfOk, IfErr, OnOk, Ok, Err, slice_get, Some, None, option_map};
+ghost use Rattle.std.specs.Prelude.{◌≡◌, ℕ, ◌+◌, ◌≤◌, ◌<◌, ◌^◌, [], ◌∷◌, ◌++◌, length, drop, IfOk, IfErr, OnOk, OnErr, Ok, Err, slice_get, Some, None, option_map};
 ghost use Rattle.std.specs.Option.{option_copied};
 ghost use Rattle.marshal_grammar.specs.Contexts.{add_symbol, begin_object, add_object, finish_object};
 ghost use Rattle.marshal_grammar.specs.Values.{object_at};
 ghost use Rattle.marshal_grammar.specs.Symbols.{symbol_at};
 ghost use Rattle.marshal_grammar.specs.Counts.{count_nodes};
-ghost use Rattle.marshal_read.specs.Fails.{Fails, reading};
-ghost use Rattle.marshal_read.specs.Making.{value_of, MakesOne, cut, Stands};
+ghost use Rattle.marshal_read.specs.Fails.{Fails, reading, error_of};
+ghost use Rattle.marshal_read.specs.Making.{value_of, MakesOne, cut, Stands, range_of};
 
 use crate::build::built;
-use crate::error::{ReadError, refuse};
+use crate::error::Stop;
 use crate::reader::Reader;
 use crate::span::Span;
-use crate::steps::Step;
+use crate::steps::{Step, add};
 use drb_value::Value;
 use marshal_grammar::refusal::Why;
+use sqlite_items::Items;
 use std::alloc::{AllocError, Global};
 
 /// An object that has begun: its number, and how many steps were before it.
@@ -25,8 +26,26 @@ pub struct Begun {
     pub start: usize,
 }
 
+/// Adds an object at the end: the range of its steps, where it is finished.
+fn add_range(
+    objects: &mut Items<Option<(usize, usize)>>,
+    start: usize,
+    end: usize,
+    is_finished: bool,
+) -> Result<(), AllocError>
+    ensures ok { OnOk result (objects.new ≡ objects.old ++ range_of is_finished start end ∷ []) }
+    ensures err { OnErr result (objects.new ≡ objects.old) }
+{
+    objects.push(if is_finished {
+        Some((start, end))
+    } else {
+        None
+    })
+}
+
 impl<'a> Reader<'a> {
     /// Gives a symbol the next number.
+    #[inline(always)]
     pub fn add_symbol(&mut self, symbol: &'a [u8]) -> Result<(), AllocError>
         ensures { OnOk result (self.new ≡ record self.old { seen = add_symbol symbol.now self.old.seen }) }
     {
@@ -35,6 +54,7 @@ impl<'a> Reader<'a> {
     }
 
     /// How many steps there are.
+    #[inline(always)]
     pub fn count_steps(&self) -> usize
         ensures { result ≡ length self.now.steps }
     {
@@ -50,11 +70,12 @@ impl<'a> Reader<'a> {
     {
         let number = self.objects.len();
         let start = self.steps.len();
-        self.objects.push(None)?;
+        add_range(&mut self.objects, 0, 0, false)?;
         Ok(Begun { number, start })
     }
 
     /// The object is what the steps since its beginning make.
+    #[inline(always)]
     pub fn finish_object(&mut self, begun: Begun)
         requires start { begun.start ≤ length self.old.steps }
         requires makes { MakesOne (drop begun.start self.old.steps) }
@@ -67,13 +88,14 @@ impl<'a> Reader<'a> {
     }
 
     /// An object that is finished at once gets the next number. It is what the steps from `start` on make.
+    #[inline(always)]
     pub fn add_object(&mut self, start: usize) -> Result<(), AllocError>
         requires start { start ≤ length self.old.steps }
         requires makes { MakesOne (drop start self.old.steps) }
         ensures { OnOk result (self.new ≡ record self.old { seen = add_object (value_of (drop start self.old.steps)) self.old.seen }) }
     {
         let end = self.steps.len();
-        self.objects.push(Some((start, end)))?;
+        add_range(&mut self.objects, start, end, true)?;
         Ok(())
     }
 
@@ -82,7 +104,7 @@ impl<'a> Reader<'a> {
     pub fn push(&mut self, step: Step<'a>) -> Result<(), AllocError>
         ensures { OnOk result (self.new ≡ record self.old { steps = self.old.steps ++ (step.entry ∷ []) }) }
     {
-        self.steps.push(step)?;
+        add(&mut self.steps, step)?;
         Ok(())
     }
 
@@ -118,14 +140,14 @@ impl<'a> Reader<'a> {
 
     /// Counts `k` nodes more at this place.
     #[inline(always)]
-    pub fn count_nodes(&mut self, at: usize, k: u64) -> Result<(), ReadError>
+    pub fn count_nodes(&mut self, at: usize, k: u64) -> Result<(), Stop>
         ensures ok { OnOk result (reading (count_nodes at k) self.old ≡ Ok (tt, self.new.seen, self.new.rest)) }
         ensures kept { OnOk result (self.new.steps ≡ self.old.steps) }
-        ensures err { IfErr result (λ e. Fails e (reading (count_nodes at k) self.old)) }
+        ensures err { IfErr result (λ e. Fails (error_of e self.new.refused) (reading (count_nodes at k) self.old)) }
     {
         let nodes = self.nodes.saturating_add(k);
         if nodes > 262144 {
-            return Err(refuse(Why::TooManyNodes, at));
+            return Err(self.refuse(Why::TooManyNodes, at));
         }
         self.nodes = nodes;
         Ok(())
@@ -146,6 +168,7 @@ impl<'a> Reader<'a> {
     }
 
     /// The symbol of that number.
+    #[inline(always)]
     pub fn symbol_at(&self, number: i64) -> Option<&'a [u8]>
         ensures { option_copied result ≡ symbol_at self.now.seen number }
     {

@@ -6,11 +6,11 @@ ghost use Rattle.marshal_grammar.specs.Trees as tree;
 ghost use Rattle.marshal_grammar.specs.Values.{simple, whole, ends, small_int, big_int, symbol_value, plain_text, marked_text, named_value};
 ghost use Rattle.marshal_grammar.specs.Grammar.{gives};
 ghost use Rattle.marshal_grammar.specs.Symbols.{plain_symbol, linked_symbol, marked_symbol};
-ghost use Rattle.marshal_read.specs.Fails.{Fails, reading};
+ghost use Rattle.marshal_read.specs.Fails.{Fails, reading, error_of};
 ghost use Rattle.marshal_read.specs.Making.{Leaf, value_of, MakesOne, added, AddsOne};
 
 use crate::counts::heavy;
-use crate::error::{ReadError, refuse};
+use crate::error::Stop;
 use crate::reader::Reader;
 use crate::span::Span;
 use crate::steps::Step;
@@ -23,11 +23,11 @@ use std::alloc::{AllocError, Global};
 impl<'a> Reader<'a> {
     /// A value that counts one node.
     #[inline(always)]
-    pub fn simple(&mut self, at: usize, step: Step<'a>) -> Result<(), ReadError>
+    pub fn simple(&mut self, at: usize, step: Step<'a>) -> Result<(), Stop>
         requires { Leaf step }
         ensures ok { OnOk result (reading (simple at (value_of (step.entry ∷ []))) self.old ≡ Ok (added self.old.steps self.new.steps, self.new.seen, self.new.rest)) }
         ensures adds { OnOk result (AddsOne self.old.steps self.new.steps) }
-        ensures err { IfErr result (λ e. Fails e (reading (simple at (value_of (step.entry ∷ []))) self.old)) }
+        ensures err { IfErr result (λ e. Fails (error_of e self.new.refused) (reading (simple at (value_of (step.entry ∷ []))) self.old)) }
     {
         self.count_nodes(at, 1)?;
         Ok(self.push(step)?)
@@ -71,60 +71,64 @@ impl<'a> Reader<'a> {
     }
 
     /// After `i`: a long.
-    pub fn small_int(&mut self, at: usize) -> Result<(), ReadError>
+    #[inline(always)]
+    pub fn small_int(&mut self, at: usize) -> Result<(), Stop>
         ensures ok { OnOk result (reading (small_int at) self.old ≡ Ok (added self.old.steps self.new.steps, self.new.seen, self.new.rest)) }
         ensures adds { OnOk result (AddsOne self.old.steps self.new.steps) }
-        ensures err { IfErr result (λ e. Fails e (reading (small_int at) self.old)) }
+        ensures err { IfErr result (λ e. Fails (error_of e self.new.refused) (reading (small_int at) self.old)) }
     {
         let n = self.long()?;
         self.simple(at, Step::Int(n as i128))
     }
 
     /// A symbol as a value: it counts by its bytes.
-    fn symbol_entry(&mut self, at: usize, symbol: &'a [u8]) -> Result<(), ReadError>
+    #[inline(always)]
+    fn symbol_entry(&mut self, at: usize, symbol: &'a [u8]) -> Result<(), Stop>
         ensures ok { OnOk result (reading (symbol_value at (gives symbol.now)) self.old ≡ Ok (added self.old.steps self.new.steps, self.new.seen, self.new.rest)) }
         ensures adds { OnOk result (AddsOne self.old.steps self.new.steps) }
-        ensures err { IfErr result (λ e. Fails e (reading (symbol_value at (gives symbol.now)) self.old)) }
+        ensures err { IfErr result (λ e. Fails (error_of e self.new.refused) (reading (symbol_value at (gives symbol.now)) self.old)) }
     {
         self.count_nodes(at, heavy(symbol))?;
         Ok(self.push(Step::Sym(Span::of(symbol)))?)
     }
 
     /// After `:` of a value.
-    pub fn plain_symbol_value(&mut self, at: usize) -> Result<(), ReadError>
+    pub fn plain_symbol_value(&mut self, at: usize) -> Result<(), Stop>
         ensures ok { OnOk result (reading (symbol_value at (plain_symbol at)) self.old ≡ Ok (added self.old.steps self.new.steps, self.new.seen, self.new.rest)) }
         ensures adds { OnOk result (AddsOne self.old.steps self.new.steps) }
-        ensures err { IfErr result (λ e. Fails e (reading (symbol_value at (plain_symbol at)) self.old)) }
+        ensures err { IfErr result (λ e. Fails (error_of e self.new.refused) (reading (symbol_value at (plain_symbol at)) self.old)) }
     {
         let s = self.plain_symbol(at)?;
         self.symbol_entry(at, s)
     }
 
     /// After `;` of a value.
-    pub fn linked_symbol_value(&mut self, at: usize) -> Result<(), ReadError>
+    #[inline(always)]
+    pub fn linked_symbol_value(&mut self, at: usize) -> Result<(), Stop>
         ensures ok { OnOk result (reading (symbol_value at (linked_symbol at)) self.old ≡ Ok (added self.old.steps self.new.steps, self.new.seen, self.new.rest)) }
         ensures adds { OnOk result (AddsOne self.old.steps self.new.steps) }
-        ensures err { IfErr result (λ e. Fails e (reading (symbol_value at (linked_symbol at)) self.old)) }
+        ensures err { IfErr result (λ e. Fails (error_of e self.new.refused) (reading (symbol_value at (linked_symbol at)) self.old)) }
     {
         let s = self.linked_symbol(at)?;
         self.symbol_entry(at, s)
     }
 
     /// After `I:` of a value.
-    pub fn marked_symbol_value(&mut self, alloc: Global, at: usize) -> Result<(), ReadError>
+    pub fn marked_symbol_value(&mut self, alloc: Global, at: usize) -> Result<(), Stop>
         ensures ok { OnOk result (reading (symbol_value at (marked_symbol at)) self.old ≡ Ok (added self.old.steps self.new.steps, self.new.seen, self.new.rest)) }
         ensures adds { OnOk result (AddsOne self.old.steps self.new.steps) }
-        ensures err { IfErr result (λ e. Fails e (reading (symbol_value at (marked_symbol at)) self.old)) }
+        ensures err { IfErr result (λ e. Fails (error_of e self.new.refused) (reading (symbol_value at (marked_symbol at)) self.old)) }
     {
         let s = self.marked_symbol(alloc, at)?;
         self.symbol_entry(at, s)
     }
 
     /// After `"`: a length and bytes.
-    pub fn plain_text(&mut self, at: usize) -> Result<(), ReadError>
+    #[inline(always)]
+    pub fn plain_text(&mut self, at: usize) -> Result<(), Stop>
         ensures ok { OnOk result (reading (plain_text at) self.old ≡ Ok (added self.old.steps self.new.steps, self.new.seen, self.new.rest)) }
         ensures adds { OnOk result (AddsOne self.old.steps self.new.steps) }
-        ensures err { IfErr result (λ e. Fails e (reading (plain_text at) self.old)) }
+        ensures err { IfErr result (λ e. Fails (error_of e self.new.refused) (reading (plain_text at) self.old)) }
     {
         let s = self.string()?;
         self.count_nodes(at, heavy(s))?;
@@ -132,10 +136,11 @@ impl<'a> Reader<'a> {
     }
 
     /// After `I"`: a length and bytes, and encoding variables.
-    pub fn marked_text(&mut self, alloc: Global, at: usize) -> Result<(), ReadError>
+    #[inline(always)]
+    pub fn marked_text(&mut self, alloc: Global, at: usize) -> Result<(), Stop>
         ensures ok { OnOk result (reading (marked_text at) self.old ≡ Ok (added self.old.steps self.new.steps, self.new.seen, self.new.rest)) }
         ensures adds { OnOk result (AddsOne self.old.steps self.new.steps) }
-        ensures err { IfErr result (λ e. Fails e (reading (marked_text at) self.old)) }
+        ensures err { IfErr result (λ e. Fails (error_of e self.new.refused) (reading (marked_text at) self.old)) }
     {
         let s = self.string()?;
         let code = self.encoding(alloc, at)?;
@@ -144,28 +149,28 @@ impl<'a> Reader<'a> {
     }
 
     /// After `c`: a length and bytes, which are ASCII.
-    pub fn class(&mut self, at: usize) -> Result<(), ReadError>
+    pub fn class(&mut self, at: usize) -> Result<(), Stop>
         ensures ok { OnOk result (reading (named_value tree.class at) self.old ≡ Ok (added self.old.steps self.new.steps, self.new.seen, self.new.rest)) }
         ensures adds { OnOk result (AddsOne self.old.steps self.new.steps) }
-        ensures err { IfErr result (λ e. Fails e (reading (named_value tree.class at) self.old)) }
+        ensures err { IfErr result (λ e. Fails (error_of e self.new.refused) (reading (named_value tree.class at) self.old)) }
     {
         let s = self.string()?;
         if !all_ascii(s) {
-            return Err(refuse(Why::Name, at));
+            return Err(self.refuse(Why::Name, at));
         }
         self.count_nodes(at, heavy(s))?;
         Ok(self.whole(Step::Class(Span::of(s)))?)
     }
 
     /// After `m`: the same.
-    pub fn module(&mut self, at: usize) -> Result<(), ReadError>
+    pub fn module(&mut self, at: usize) -> Result<(), Stop>
         ensures ok { OnOk result (reading (named_value tree.module_named at) self.old ≡ Ok (added self.old.steps self.new.steps, self.new.seen, self.new.rest)) }
         ensures adds { OnOk result (AddsOne self.old.steps self.new.steps) }
-        ensures err { IfErr result (λ e. Fails e (reading (named_value tree.module_named at) self.old)) }
+        ensures err { IfErr result (λ e. Fails (error_of e self.new.refused) (reading (named_value tree.module_named at) self.old)) }
     {
         let s = self.string()?;
         if !all_ascii(s) {
-            return Err(refuse(Why::Name, at));
+            return Err(self.refuse(Why::Name, at));
         }
         self.count_nodes(at, heavy(s))?;
         Ok(self.whole(Step::Module(Span::of(s)))?)

@@ -12,8 +12,8 @@ use Rattle.marshal_grammar.specs.Values.{values, pairs, fields}
 use Rattle.marshal_read.specs.declared.steps.Step.{Step}
 use Rattle.marshal_read.specs.State.{State}
 use Rattle.marshal_read.specs.Making.{added, value_of, key_in, name_in}
-use Rattle.marshal_read.specs.declared.error.ReadError.{ReadError}
-use Rattle.marshal_read.specs.Fails.{Fails, reading}
+use Rattle.marshal_read.specs.declared.error.Stop.{Stop}
+use Rattle.marshal_read.specs.Fails.{Fails, reading, error_of}
 use Rattle.marshal_read.specs.Scopes.{reference_in, part_in, given}
 use Rattle.marshal_grammar.specs.Trees.{list, hash, object, structure, wrapped}
 use Rattle.marshal_grammar.specs.Values as V
@@ -37,11 +37,11 @@ values-loop-preserved t c =
 pub value-returns-in_err-first-clause-err : goal.value-returns-in_err-first-clause-err
 value-returns-in_err-first-clause-err t c =
     let p = err_from_is_err_and c.from_residual.result c.from_residual.ensures.1 in
-    rw (p.1, p.2) (missing c.in_err-first.field-0.0 c.args.nested c.args.room c.args.self.now c.in_err-first.ensures.err)
+    rw (p.1, p.2) (missing (error_of c.in_err-first.field-0.0 c.byte.new.self.refused) c.args.nested c.args.room c.args.self.now c.in_err-first.ensures.err)
 
 pub value-returns-in_default-clause-err : goal.value-returns-in_default-clause-err
 value-returns-in_default-clause-err t c =
-    rw c.refuse.ensures (untyped c.args.nested c.args.room c.in_ok-first.first c.at-at.result c.args.self.now c.byte.new.self c.at-at.ensures c.in_ok-first.ensures.ok (sym c.in_default.is ∙ c.kind_of.ensures))
+    rw (c.refuse.ensures.stop, c.refuse.ensures.refused) (untyped c.args.nested c.args.room c.in_ok-first.first c.at-at.result c.args.self.now c.byte.new.self c.at-at.ensures c.in_ok-first.ensures.ok (sym c.in_default.is ∙ c.kind_of.ensures))
 
 pub value-returns-then-room-eq0-clause-ok : goal.value-returns-then-room-eq0-clause-ok
 value-returns-then-room-eq0-clause-ok t c =
@@ -53,7 +53,7 @@ value-returns-then-room-eq0-clause-ok t c =
 pub value-returns-then-room-eq0-clause-err : goal.value-returns-then-room-eq0-clause-err
 value-returns-then-room-eq0-clause-err t c =
     let e = closed c.args.nested c.args.room c.in_ok-first.first c.in-Some.kind c.at-at.result c.args.self.now c.byte.new.self c.if-room-eq0.true c.at-at.ensures c.in_ok-first.ensures.ok (sym c.in-Some.is ∙ c.kind_of.ensures) in
-    let P : Read Tree → Type 0 = λ q. IfErr c.too_deep.result (λ x. Fails x q) in
+    let P : Read Tree → Type 0 = λ q. IfErr c.too_deep.result (λ x. Fails (error_of x c.too_deep.new.self.refused) q) in
     subst P (sym e) c.too_deep.ensures.err
 
 pub value-returns-clause-ok : goal.value-returns-clause-ok
@@ -66,7 +66,7 @@ value-returns-clause-ok t c =
 pub value-returns-clause-err : goal.value-returns-clause-err
 value-returns-clause-err t c =
     let e = opened c.args.nested c.args.room c.in_ok-first.first c.in-Some.kind c.at-at.result c.args.self.now c.byte.new.self c.if-room-eq0.false c.at-at.ensures c.in_ok-first.ensures.ok (sym c.in-Some.is ∙ c.kind_of.ensures) in
-    let P : Read Tree → Type 0 = λ q. IfErr c.body.result (λ x. Fails x q) in
+    let P : Read Tree → Type 0 = λ q. IfErr c.body.result (λ x. Fails (error_of x c.body.new.self.refused) q) in
     subst P (sym e) c.body.ensures.err
 
 pub list_value-end-requires-clause-makes : goal.list_value-end-requires-clause-makes
@@ -218,7 +218,7 @@ pairs-loop-preserved t c =
 pub pairs-returns-then-has_key-clause-err : goal.pairs-returns-then-has_key-clause-err
 pairs-returns-then-has_key-clause-err t c =
     let d : true ≡ key_in c.in_ok-key.key c.loop.keys = sym c.if-has_key.true ∙ c.has_key.ensures ∙ ap (key_in c.in_ok-key.key) c.as_slice.ensures in
-    rw (c.refuse.ensures, c.at-at.ensures)
+    rw (c.refuse.ensures.stop, c.refuse.ensures.refused, c.at-at.ensures)
     (pairs_double (reading (pairs (part_in c.args.nested c.args.room) [] c.args.n) c.args.self.now) (part_in c.args.nested c.args.room) c.args.n c.loop.counter c.loop.keys c.args.self.now.steps c.loop.self c.value.new.self c.in_ok-key.key c.loop-test.true c.loop.invariant c.in_ok-value.ensures.ok (c.in_ok-key.ensures ∙ ap (λ (i : ℕ). value_of (drop i c.value.new.self.steps)) c.count_steps-start.ensures) d)
 
 pub pairs-returns-in_err-value-2-clause-err : goal.pairs-returns-in_err-value-2-clause-err
@@ -226,7 +226,7 @@ pairs-returns-in_err-value-2-clause-err t c =
     let d : false ≡ key_in c.in_ok-key.key c.loop.keys = sym c.if-has_key.false ∙ c.has_key.ensures ∙ ap (key_in c.in_ok-key.key) c.as_slice.ensures in
     let p = err_from_is_err_and c.from_residual-in_err-value-2.result c.from_residual-in_err-value-2.ensures.1 in
     rw (p.1, p.2)
-    (pairs_failed_value c.in_err-value-2.field-0.0 (reading (pairs (part_in c.args.nested c.args.room) [] c.args.n) c.args.self.now) (part_in c.args.nested c.args.room) c.args.n c.loop.counter c.loop.keys c.args.self.now.steps c.loop.self c.value.new.self c.in_ok-key.key c.loop-test.true c.loop.invariant c.in_ok-value.ensures.ok (c.in_ok-key.ensures ∙ ap (λ (i : ℕ). value_of (drop i c.value.new.self.steps)) c.count_steps-start.ensures) d c.in_err-value-2.ensures.err)
+    (pairs_failed_value (error_of c.in_err-value-2.field-0.0 c.value-in-loop.new.self.refused) (reading (pairs (part_in c.args.nested c.args.room) [] c.args.n) c.args.self.now) (part_in c.args.nested c.args.room) c.args.n c.loop.counter c.loop.keys c.args.self.now.steps c.loop.self c.value.new.self c.in_ok-key.key c.loop-test.true c.loop.invariant c.in_ok-value.ensures.ok (c.in_ok-key.ensures ∙ ap (λ (i : ℕ). value_of (drop i c.value.new.self.steps)) c.count_steps-start.ensures) d c.in_err-value-2.ensures.err)
 
 pub fields-loop-preserved : goal.fields-loop-preserved
 fields-loop-preserved t c =
@@ -238,7 +238,7 @@ fields-loop-preserved t c =
 pub fields-returns-then-has_name-clause-err : goal.fields-returns-then-has_name-clause-err
 fields-returns-then-has_name-clause-err t c =
     let d : true ≡ name_in c.in_ok-name.name.now c.loop.names = sym c.if-has_name.true ∙ c.has_name.ensures ∙ ap (name_in c.in_ok-name.name.now) c.as_slice.ensures in
-    rw (c.refuse.ensures, c.at-at.ensures)
+    rw (c.refuse.ensures.stop, c.refuse.ensures.refused, c.at-at.ensures)
     (fields_double (reading (fields (part_in c.args.nested c.args.room) [] c.args.n) c.args.self.now) (part_in c.args.nested c.args.room) c.args.n c.loop.counter c.loop.names c.args.self.now.steps c.loop.self c.name.new.self c.in_ok-name.name.now c.loop-test.true c.loop.invariant c.in_ok-name.ensures.ok d)
 
 pub fields-returns-in_err-value-clause-err : goal.fields-returns-in_err-value-clause-err
@@ -246,7 +246,7 @@ fields-returns-in_err-value-clause-err t c =
     let d : false ≡ name_in c.in_ok-name.name.now c.loop.names = sym c.if-has_name.false ∙ c.has_name.ensures ∙ ap (name_in c.in_ok-name.name.now) c.as_slice.ensures in
     let p = err_from_is_err_and c.from_residual-in_err-value.result c.from_residual-in_err-value.ensures.1 in
     rw (p.1, p.2)
-    (fields_failed_value c.in_err-value.field-0.0 (reading (fields (part_in c.args.nested c.args.room) [] c.args.n) c.args.self.now) (part_in c.args.nested c.args.room) c.args.n c.loop.counter c.loop.names c.args.self.now.steps c.loop.self c.name.new.self c.in_ok-name.name.now c.loop-test.true c.loop.invariant c.in_ok-name.ensures.ok d c.in_err-value.ensures.err)
+    (fields_failed_value (error_of c.in_err-value.field-0.0 c.value.new.self.refused) (reading (fields (part_in c.args.nested c.args.room) [] c.args.n) c.args.self.now) (part_in c.args.nested c.args.room) c.args.n c.loop.counter c.loop.names c.args.self.now.steps c.loop.self c.name.new.self c.in_ok-name.name.now c.loop-test.true c.loop.invariant c.in_ok-name.ensures.ok d c.in_err-value.ensures.err)
 
 pub remote_in-returns-in-Ok : goal.remote_in-returns-in-Ok
 remote_in-returns-in-Ok t c =
@@ -261,8 +261,8 @@ remote_in-returns-in-Ok t c =
 
 pub remote_in-returns : goal.remote_in-returns
 remote_in-returns t c =
-    let F : ReadError → Type 0 = λ e. Fails e (reading (dump_with (reference_in true)) c.in_ok-inner.inner) in
-    let h : reading (dump_with (reference_in true)) c.in_ok-inner.inner ≡ Err c.in-Err-Refused._refusal = subst F c.in-Err-Refused.field-0-is c.in-Err-Refused.ensures.err in
-    let s : read (dump_with (reference_in true)) opening c.args.bytes.now ≡ Err c.in-Err-Refused._refusal =
+    let F : Stop → Type 0 = λ e. Fails (error_of e c.dump_with.new.self.refused) (reading (dump_with (reference_in true)) c.in_ok-inner.inner) in
+    let h : reading (dump_with (reference_in true)) c.in_ok-inner.inner ≡ Err c.dump_with.new.self.refused = subst F c.in-Err-Refused.field-0-is c.in-Err-Refused.ensures.err in
+    let s : read (dump_with (reference_in true)) opening c.args.bytes.now ≡ Err c.dump_with.new.self.refused =
     ap (λ (z : State). reading (dump_with (reference_in true)) z) (sym c.in_ok-inner.ensures) ∙ h in
-    given_err c.args.nested c.args.bytes.now c.in-Err-Refused._refusal c.if-nested.false s
+    given_err c.args.nested c.args.bytes.now c.dump_with.new.self.refused c.if-nested.false s
