@@ -77,7 +77,7 @@ fn block_in(node: Node) -> Result<Option<Remote>, Stop>
 {
     match node {
         Node::Nil => Ok(None),
-        Node::Remote(remote) => Ok(Some(remote)),
+        Node::Remote(remote) => Ok(Some(remote.into_inner())),
         _ => Err(Stop::Refused(PacketRefusal::NotABlock)),
     }
 }

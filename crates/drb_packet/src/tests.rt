@@ -383,10 +383,8 @@ const URI: &[u8] = b"druby://127.0.0.1:8787";
 // the reference of the object 1
 fn first_object(alloc: Global) -> Result<Value, Fail> {
     let uri = Text::of(alloc, URI, Code::Utf8)?;
-    Ok(Value::remote(Remote {
-        uri,
-        id: RefId::Number(1),
-    }))
+    let id = RefId::Number(1);
+    Ok(Value::remote(alloc, Remote { uri, id })?)
 }
 
 // `[:a, 1]`

@@ -49,7 +49,7 @@ fn holding(alloc: Global, bytes: &[u8]) -> Result<Value, AllocError>
     let class = ascii_name(alloc, b"DRb::DRbArray")?;
     let bytes = Items::from_slice(alloc, bytes)?;
     let vars = FieldList::new(alloc);
-    Ok(Value::dumped(Dumped::of(class, bytes, vars)))
+    Value::dumped(alloc, Dumped::of(class, bytes, vars))
 }
 
 /// The value that a block was sent: of a `DRb::DRbArray` the array that it holds, and every other value as it is.
@@ -83,7 +83,7 @@ fn held(v: &Value) -> Option<&[u8]>
     ensures { MatchOption result ((bytes : List ℕ) → Holds v.now bytes → ⊥) (λ b. Holds v.now b.now) }
 {
     match &v.node {
-        Node::Dumped(dumped) => held_by(dumped),
+        Node::Dumped(dumped) => held_by(dumped.get()),
         _ => None,
     }
 }

@@ -21,7 +21,7 @@ pub fn exception(alloc: Global, class: &[u8], message: &[u8]) -> Result<Value, A
     let message = Text::of(alloc, message, Code::Utf8)?;
     fields.push_new(ascii_name(alloc, b"mesg")?, Value::text(message))?;
     fields.push_new(ascii_name(alloc, b"bt")?, Value::list(Items::new(alloc)))?;
-    Ok(Value::object(class, fields))
+    Value::object(alloc, class, fields)
 }
 
 /// The name of these bytes.

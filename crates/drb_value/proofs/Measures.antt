@@ -29,6 +29,13 @@ abbrev pub default_size : Option Tree → ℕ
 default_size None = 0
 default_size (Some t) = W.depth t + 1
 
+-- how deep the fields of an object are, and the variables of a dumped value
+abbrev pub object_depth : Fields → ℕ
+object_depth f = W.fields_depth f.fields
+
+abbrev pub vars_depth : List ℕ × List ℕ × List (List ℕ × Tree) → ℕ
+vars_depth d = W.fields_depth d.2
+
 list_most : (ts : List Tree) → list_size ts ≤ W.most (map W.depth ts) + 1
 list_most [] = omega arith
 list_most (t ∷ ts) = omega (arith, list_most ts)

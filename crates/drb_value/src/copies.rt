@@ -35,11 +35,11 @@ impl Node {
             Node::Hash(pairs) => Ok(Node::Hash(pairs.copy(alloc)?)),
             Node::Class(name) => Ok(Node::Class(name.copy(alloc)?)),
             Node::Module(name) => Ok(Node::Module(name.copy(alloc)?)),
-            Node::Object(object) => Ok(Node::Object(object.copy(alloc)?)),
-            Node::Struct(object) => Ok(Node::Struct(object.copy(alloc)?)),
-            Node::Dumped(dumped) => Ok(Node::Dumped(dumped.copy(alloc)?)),
+            Node::Object(object) => Ok(Node::Object(Boxed::new(alloc, object.get().copy(alloc)?)?)),
+            Node::Struct(object) => Ok(Node::Struct(Boxed::new(alloc, object.get().copy(alloc)?)?)),
+            Node::Dumped(dumped) => Ok(Node::Dumped(Boxed::new(alloc, dumped.get().copy(alloc)?)?)),
             Node::Wrapped(wrapped) => Ok(Node::Wrapped(wrapped.copy(alloc)?)),
-            Node::Remote(remote) => Ok(Node::Remote(remote.copy(alloc)?)),
+            Node::Remote(remote) => Ok(Node::Remote(Boxed::new(alloc, remote.get().copy(alloc)?)?)),
         }
     }
 }

@@ -55,15 +55,15 @@ fn same_nodes(n: &Node, m: &Node) -> bool
             _ => false,
         },
         Node::Object(x) => match m {
-            Node::Object(y) => same_objects(x, y),
+            Node::Object(y) => same_objects(x.get(), y.get()),
             _ => false,
         },
         Node::Struct(x) => match m {
-            Node::Struct(y) => same_objects(x, y),
+            Node::Struct(y) => same_objects(x.get(), y.get()),
             _ => false,
         },
         Node::Dumped(x) => match m {
-            Node::Dumped(y) => same_dumped(x, y),
+            Node::Dumped(y) => same_dumped(x.get(), y.get()),
             _ => false,
         },
         Node::Wrapped(x) => match m {
@@ -71,7 +71,7 @@ fn same_nodes(n: &Node, m: &Node) -> bool
             _ => false,
         },
         Node::Remote(x) => match m {
-            Node::Remote(y) => x.same(y),
+            Node::Remote(y) => x.get().same(y.get()),
             _ => false,
         },
     }

@@ -70,11 +70,11 @@ pub enum Node {
     Hash(Pairs),
     Class(Name),
     Module(Name),
-    Object(Fields),
-    Struct(Fields),
-    Dumped(Dumped),
+    Object(Boxed<Fields>),
+    Struct(Boxed<Fields>),
+    Dumped(Boxed<Dumped>),
     Wrapped(Wrapped),
-    Remote(Remote),
+    Remote(Boxed<Remote>),
 }
 
 /// The class and the fields of an object, or the class and the members of a struct.

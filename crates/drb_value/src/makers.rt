@@ -96,30 +96,39 @@ impl Value {
     }
 
     /// An object of this class with these fields.
-    pub fn object(class: Name, fields: FieldList) -> Value
-        ensures { result ≡ object_tree class fields }
+    ///
+    /// Errors: only want of memory.
+    pub fn object(alloc: Global, class: Name, fields: FieldList) -> Result<Value, AllocError>
+        ensures { IfOk result (λ value. value ≡ object_tree class fields) }
     {
-        Value {
-            node: Node::Object(Fields { class, fields }),
-        }
+        let object = Boxed::new(alloc, Fields { class, fields })?;
+        Ok(Value {
+            node: Node::Object(object),
+        })
     }
 
     /// A struct of this class with these members.
-    pub fn structure(class: Name, fields: FieldList) -> Value
-        ensures { result ≡ struct_tree class fields }
+    ///
+    /// Errors: only want of memory.
+    pub fn structure(alloc: Global, class: Name, fields: FieldList) -> Result<Value, AllocError>
+        ensures { IfOk result (λ value. value ≡ struct_tree class fields) }
     {
-        Value {
-            node: Node::Struct(Fields { class, fields }),
-        }
+        let object = Boxed::new(alloc, Fields { class, fields })?;
+        Ok(Value {
+            node: Node::Struct(object),
+        })
     }
 
     /// What its class dumped as bytes.
-    pub fn dumped(dumped: Dumped) -> Value
-        ensures { result ≡ dumped_tree dumped.0 dumped.1 dumped.2 }
+    ///
+    /// Errors: only want of memory.
+    pub fn dumped(alloc: Global, dumped: Dumped) -> Result<Value, AllocError>
+        ensures { IfOk result (λ value. value ≡ dumped_tree dumped.0 dumped.1 dumped.2) }
     {
-        Value {
+        let dumped = Boxed::new(alloc, dumped)?;
+        Ok(Value {
             node: Node::Dumped(dumped),
-        }
+        })
     }
 
     /// What its class dumped as another value.
@@ -135,12 +144,15 @@ impl Value {
     }
 
     /// An object that lives elsewhere.
-    pub fn remote(remote: Remote) -> Value
-        ensures { result ≡ remote_tree remote }
+    ///
+    /// Errors: only want of memory.
+    pub fn remote(alloc: Global, remote: Remote) -> Result<Value, AllocError>
+        ensures { IfOk result (λ value. value ≡ remote_tree remote) }
     {
-        Value {
+        let remote = Boxed::new(alloc, remote)?;
+        Ok(Value {
             node: Node::Remote(remote),
-        }
+        })
     }
 }
 

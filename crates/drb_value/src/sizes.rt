@@ -4,7 +4,7 @@ ghost use Rattle.drb_tree.specs.declared.Tree.{Tree};
 ghost use Rattle.drb_tree.specs.declared.Tree.TheFolds.{map-Tree};
 ghost use Rattle.drb_value.specs.View.{layer};
 
-use crate::{FieldList, Fields, Node, Pairs, Value};
+use crate::{Dumped, FieldList, Fields, Node, Pairs, Value};
 
 impl Value {
     /// How many nodes the value counts, at most the greatest u64.
@@ -42,18 +42,16 @@ fn nodes_in(node: &Node) -> u64
         Node::Hash(pairs) => nodes_of_pairs(pairs).saturating_add(1),
         Node::Class(name) => heavy(name.as_slice()),
         Node::Module(name) => heavy(name.as_slice()),
-        Node::Object(object) => nodes_of_object(object),
-        Node::Struct(object) => nodes_of_object(object),
-        Node::Dumped(dumped) => nodes_of_fields(&dumped.vars)
-            .saturating_add(heavy(dumped.class.as_slice()))
-            .saturating_add(heavy(dumped.bytes.as_slice())),
+        Node::Object(object) => nodes_of_object(object.get()),
+        Node::Struct(object) => nodes_of_object(object.get()),
+        Node::Dumped(dumped) => nodes_of_dumped(dumped.get()),
         Node::Wrapped(wrapped) => wrapped
             .inner
             .get()
             .nodes()
             .saturating_add(heavy(wrapped.class.as_slice()))
             .saturating_add(1),
-        Node::Remote(remote) => remote.nodes(),
+        Node::Remote(remote) => remote.get().nodes(),
     }
 }
 
@@ -100,6 +98,15 @@ fn nodes_of_object(object: &Fields) -> u64
 }
 
 #[cycle(nodes)]
+fn nodes_of_dumped(dumped: &Dumped) -> u64
+    ensures { result ≡ min (heavy dumped.now.0 + heavy dumped.now.1 + total_fields (map (λ f. (f.0, nodes f.1)) dumped.now.2)) (2 ^ 64 - 1) }
+{
+    nodes_of_fields(dumped.vars())
+        .saturating_add(heavy(dumped.class().as_slice()))
+        .saturating_add(heavy(dumped.bytes()))
+}
+
+#[cycle(nodes)]
 fn nodes_of_fields(fields: &FieldList) -> u64
     ensures { result ≡ min (total_fields (map (λ f. (f.0, nodes f.1)) fields.now)) (2 ^ 64 - 1) }
 {
@@ -118,9 +125,9 @@ fn depth_in(node: &Node) -> u64
     match node {
         Node::List(items) => depth_of_items(items.as_slice()).saturating_add(1),
         Node::Hash(pairs) => depth_of_pairs(pairs).saturating_add(1),
-        Node::Object(object) => depth_of_fields(&object.fields).saturating_add(1),
-        Node::Struct(object) => depth_of_fields(&object.fields).saturating_add(1),
-        Node::Dumped(dumped) => depth_of_fields(&dumped.vars).saturating_add(1),
+        Node::Object(object) => depth_of_fields(&object.get().fields).saturating_add(1),
+        Node::Struct(object) => depth_of_fields(&object.get().fields).saturating_add(1),
+        Node::Dumped(dumped) => depth_of_fields(dumped.get().vars()).saturating_add(1),
         Node::Wrapped(wrapped) => wrapped.inner.get().depth().saturating_add(1),
         _ => 1,
     }

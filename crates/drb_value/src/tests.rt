@@ -56,7 +56,8 @@ fn hash(alloc: Global, keys: &[u8], default: Option<u8>) -> Result<Value, Fail> 
 
 fn object(alloc: Global, class: &str, names: &[&str], first: u8) -> Result<Value, Fail> {
     let class = name(alloc, class)?;
-    Ok(Value::object(class, fields(alloc, names, first)?))
+    let fields = fields(alloc, names, first)?;
+    Ok(Value::object(alloc, class, fields)?)
 }
 
 fn dumped(alloc: Global, bytes: &[u8], names: &[&str]) -> Result<Value, Fail> {
@@ -66,12 +67,12 @@ fn dumped(alloc: Global, bytes: &[u8], names: &[&str]) -> Result<Value, Fail> {
     if class.is_remote_class() {
         return Ok(Value::nil());
     }
-    Ok(Value::dumped(Dumped::of(class, bytes, vars)))
+    Ok(Value::dumped(alloc, Dumped::of(class, bytes, vars))?)
 }
 
 fn remote(alloc: Global, uri: &[u8], id: RefId) -> Result<Value, AllocError> {
     let uri = Text::of(alloc, uri, Code::Ascii)?;
-    Ok(Value::remote(Remote { uri, id }))
+    Value::remote(alloc, Remote { uri, id })
 }
 
 fn nested(alloc: Global, depth: usize) -> Result<Value, AllocError> {
@@ -106,7 +107,7 @@ fn forms(alloc: Global) -> Result<Vec<Form>, Fail> {
     all.push(counted(object(alloc, "A", &["x", "y"], 0)?, 6, 2))?;
     let point = name(alloc, "A")?;
     all.push(counted(
-        Value::structure(point, fields(alloc, &["x", "y"], 0)?),
+        Value::structure(alloc, point, fields(alloc, &["x", "y"], 0)?)?,
         6,
         2,
     ))?;
@@ -176,7 +177,7 @@ fn sameness_looks_at_bytes_and_codes_and_at_no_default_and_no_order(
     ))?;
     let mut turned = fields(alloc, &["y"], 1)?;
     turned.push(name(alloc, "x")?, Value::int(0))?;
-    let turned = Value::object(name(alloc, "A")?, turned);
+    let turned = Value::object(alloc, name(alloc, "A")?, turned)?;
     table.push((object(alloc, "A", &["x", "y"], 0)?, turned, true))?;
     table.push((
         dumped(alloc, b"t", &["x"])?,

@@ -115,13 +115,13 @@ impl Parts {
             Step::Field(bytes) => self.field(name(alloc, bytes)?),
             Step::Hash(n) => self.hash(*n),
             Step::HashWithDefault(n) => self.hash_with_default(alloc, *n),
-            Step::Object(class, n) => self.object(name(alloc, class)?, *n),
-            Step::Struct(class, n) => self.structure(name(alloc, class)?, *n),
+            Step::Object(class, n) => self.object(alloc, name(alloc, class)?, *n),
+            Step::Struct(class, n) => self.structure(alloc, name(alloc, class)?, *n),
             Step::Dumped(raw, n) => {
                 let raw = raw.get();
                 self.dumped(alloc, name(alloc, &raw.class)?, &raw.bytes, *n)
             }
-            Step::Remote(remote) => self.put(Value::remote(remote.get().copy(alloc)?)),
+            Step::Remote(remote) => self.put(Value::remote(alloc, remote.get().copy(alloc)?)?),
             Step::Forget(n) => self.forget(*n),
             Step::Wrapped(class) => self.wrapped(alloc, name(alloc, class)?),
         }
@@ -213,20 +213,20 @@ impl Parts {
         Ok(FieldList { list })
     }
 
-    fn object(&mut self, class: Name, n: usize) -> Result<(), AllocError>
+    fn object(&mut self, alloc: Global, class: Name, n: usize) -> Result<(), AllocError>
         requires { (n ≤ length self.old.fields) × IsTrue (names_distinct (back n self.old.fields)) }
         ensures { OnOk result (self.new ≡ after self.old (Step.Object class n)) }
     {
         let fields = self.fields(n)?;
-        self.put(Value::object(class, fields))
+        self.put(Value::object(alloc, class, fields)?)
     }
 
-    fn structure(&mut self, class: Name, n: usize) -> Result<(), AllocError>
+    fn structure(&mut self, alloc: Global, class: Name, n: usize) -> Result<(), AllocError>
         requires { (n ≤ length self.old.fields) × IsTrue (names_distinct (back n self.old.fields)) }
         ensures { OnOk result (self.new ≡ after self.old (Step.Struct class n)) }
     {
         let fields = self.fields(n)?;
-        self.put(Value::structure(class, fields))
+        self.put(Value::structure(alloc, class, fields)?)
     }
 
     fn dumped(
@@ -241,7 +241,7 @@ impl Parts {
     {
         let fields = self.fields(n)?;
         let bytes = Items::from_slice(alloc, bytes.as_slice())?;
-        self.put(Value::dumped(Dumped::of(class, bytes, fields)))
+        self.put(Value::dumped(alloc, Dumped::of(class, bytes, fields))?)
     }
 
     fn forget(&mut self, n: usize) -> Result<(), AllocError>

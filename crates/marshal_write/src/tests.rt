@@ -44,12 +44,12 @@ fn y_at_k(alloc: Global) -> Result<FieldList, Fail> {
 
 fn object(alloc: Global) -> Result<Value, Fail> {
     let class = name(alloc, "T")?;
-    Ok(Value::object(class, y_at_k(alloc)?))
+    Ok(Value::object(alloc, class, y_at_k(alloc)?)?)
 }
 
 fn structure(alloc: Global) -> Result<Value, Fail> {
     let class = name(alloc, "T")?;
-    Ok(Value::structure(class, y_at_k(alloc)?))
+    Ok(Value::structure(alloc, class, y_at_k(alloc)?)?)
 }
 
 fn wrapped(alloc: Global) -> Result<Value, Fail> {
@@ -64,7 +64,7 @@ fn dumped(alloc: Global, vars: FieldList) -> Result<Value, Fail> {
         return Ok(Value::nil());
     }
     let bytes = Items::from_slice(alloc, b"x")?;
-    Ok(Value::dumped(Dumped::of(class, bytes, vars)))
+    Ok(Value::dumped(alloc, Dumped::of(class, bytes, vars))?)
 }
 
 fn two_dumped(alloc: Global) -> Result<Value, Fail> {
@@ -98,7 +98,7 @@ fn module(alloc: Global) -> Result<Value, Fail> {
 
 fn remote(alloc: Global, id: RefId) -> Result<Value, Fail> {
     let uri = Text::of(alloc, b"druby://127.0.0.1:8787", Code::Utf8)?;
-    Ok(Value::remote(Remote { uri, id }))
+    Ok(Value::remote(alloc, Remote { uri, id })?)
 }
 
 fn remote_text(alloc: Global) -> Result<Value, Fail> {

@@ -44,11 +44,11 @@ impl Writer {
             Node::Hash(pairs) => self.put_hash(pairs),
             Node::Class(name) => self.put_marked(b"c", name.as_slice()),
             Node::Module(name) => self.put_marked(b"m", name.as_slice()),
-            Node::Object(object) => self.put_object(b'o', object),
-            Node::Struct(object) => self.put_object(b'S', object),
-            Node::Dumped(dumped) => self.put_dumped(dumped),
+            Node::Object(object) => self.put_object(b'o', object.get()),
+            Node::Struct(object) => self.put_object(b'S', object.get()),
+            Node::Dumped(dumped) => self.put_dumped(dumped.get()),
             Node::Wrapped(wrapped) => self.put_wrapped(wrapped),
-            Node::Remote(remote) => self.put_remote(remote),
+            Node::Remote(remote) => self.put_remote(remote.get()),
         }
     }
 

@@ -96,11 +96,11 @@ fn equal_nodes(n: &Node, m: &Node) -> bool
         Node::Hash(x) => matches!(m, Node::Hash(y) if equal_hashes(x, y)),
         Node::Class(x) => matches!(m, Node::Class(y) if equal_names(x, y)),
         Node::Module(x) => matches!(m, Node::Module(y) if equal_names(x, y)),
-        Node::Object(x) => matches!(m, Node::Object(y) if equal_objects(x, y)),
-        Node::Struct(x) => matches!(m, Node::Struct(y) if equal_objects(x, y)),
-        Node::Dumped(x) => matches!(m, Node::Dumped(y) if equal_dumped(x, y)),
+        Node::Object(x) => matches!(m, Node::Object(y) if equal_objects(x.get(), y.get())),
+        Node::Struct(x) => matches!(m, Node::Struct(y) if equal_objects(x.get(), y.get())),
+        Node::Dumped(x) => matches!(m, Node::Dumped(y) if equal_dumped(x.get(), y.get())),
         Node::Wrapped(x) => matches!(m, Node::Wrapped(y) if equal_wrapped(x, y)),
-        Node::Remote(x) => matches!(m, Node::Remote(y) if equal_remotes(x, y)),
+        Node::Remote(x) => matches!(m, Node::Remote(y) if equal_remotes(x.get(), y.get())),
     }
 }
 

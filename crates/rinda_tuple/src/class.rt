@@ -177,7 +177,7 @@ fn is_object_of(name: &[u8], x: &Node) -> bool
     ensures { result ≡ is_object_of_spec name.now (layer x.now) }
 {
     match x {
-        Node::Object(object) => object.class.as_slice() == name,
+        Node::Object(object) => object.get().class.as_slice() == name,
         _ => false,
     }
 }
@@ -187,7 +187,7 @@ fn is_struct_of(name: &[u8], x: &Node) -> bool
     ensures { result ≡ is_struct_of_spec name.now (layer x.now) }
 {
     match x {
-        Node::Struct(object) => object.class.as_slice() == name,
+        Node::Struct(object) => object.get().class.as_slice() == name,
         _ => false,
     }
 }
@@ -197,9 +197,9 @@ fn is_of(name: &[u8], x: &Node) -> bool
     ensures { result ≡ is_of_spec name.now (layer x.now) }
 {
     match x {
-        Node::Object(object) => object.class.as_slice() == name,
-        Node::Struct(object) => object.class.as_slice() == name,
-        Node::Dumped(dumped) => dumped.class().as_slice() == name,
+        Node::Object(object) => object.get().class.as_slice() == name,
+        Node::Struct(object) => object.get().class.as_slice() == name,
+        Node::Dumped(dumped) => dumped.get().class().as_slice() == name,
         Node::Wrapped(wrapped) => wrapped.class.as_slice() == name,
         _ => false,
     }

@@ -15,6 +15,7 @@ pub fn range_suits(e: &Node, x: &Node) -> bool
     let Node::Object(object) = e else {
         return false;
     };
+    let object = object.get();
     if object.class.as_slice() != b"Range".as_slice() {
         return false;
     }

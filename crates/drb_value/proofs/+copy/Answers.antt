@@ -1,6 +1,6 @@
 use Rattle.std.proofs.Common.{arith, ap}
 use Rattle.drb_tree.specs.Sizes.{depth, pairs_depth, fields_depth}
-use Rattle.drb_value.proofs.Measures.{list_size, pairs_size, fields_size, default_size, hash_in, list_in, object_in, struct_in, dumped_in, wrapped_in, pairs_in, default_in, fields_in, item_in, pair_in, field_in}
+use Rattle.drb_value.proofs.Measures.{list_size, pairs_size, fields_size, default_size, hash_in, list_in, object_depth, vars_depth, object_in, struct_in, dumped_in, wrapped_in, pairs_in, default_in, fields_in, item_in, pair_in, field_in}
 use Rattle.drb_value.proofs.+copy.Goals as goal
 
 pub copies::copy_items-copy-requires : goal.copies::copy_items-copy-requires
@@ -34,13 +34,13 @@ pub Node::copy-copy-requires-in-Hash : goal.Node::copy-copy-requires-in-Hash
 Node::copy-copy-requires-in-Hash t c = (omega (arith, hash_in _ _ c.in-Hash.is), tt)
 
 pub Node::copy-copy-requires-in-Object : goal.Node::copy-copy-requires-in-Object
-Node::copy-copy-requires-in-Object t c = (omega (arith, object_in _ _ c.in-Object.is), tt)
+Node::copy-copy-requires-in-Object t c = (omega (arith, ap object_depth c.get.ensures, object_in _ _ c.in-Object.is), tt)
 
 pub Node::copy-copy-requires-in-Struct : goal.Node::copy-copy-requires-in-Struct
-Node::copy-copy-requires-in-Struct t c = (omega (arith, struct_in _ _ c.in-Struct.is), tt)
+Node::copy-copy-requires-in-Struct t c = (omega (arith, ap object_depth c.get-in-Struct.ensures, struct_in _ _ c.in-Struct.is), tt)
 
 pub Node::copy-copy-requires-in-Dumped : goal.Node::copy-copy-requires-in-Dumped
-Node::copy-copy-requires-in-Dumped t c = (omega (arith, dumped_in _ _ c.in-Dumped.is), tt)
+Node::copy-copy-requires-in-Dumped t c = (omega (arith, ap vars_depth c.get-in-Dumped.ensures, dumped_in _ _ c.in-Dumped.is), tt)
 
 pub Node::copy-copy-requires-in-Wrapped : goal.Node::copy-copy-requires-in-Wrapped
 Node::copy-copy-requires-in-Wrapped t c = (omega (arith, wrapped_in _ _ c.in-Wrapped.is), tt)

@@ -20,6 +20,9 @@ decreases-sizes::nodes_of_pairs l = 8 * pairs_depth l.pairs.now + 10
 abbrev pub decreases-sizes::nodes_of_object : goal.decreases-sizes::nodes_of_object
 decreases-sizes::nodes_of_object l = 8 * fields_depth l.object.now.fields + 12
 
+abbrev pub decreases-sizes::nodes_of_dumped : goal.decreases-sizes::nodes_of_dumped
+decreases-sizes::nodes_of_dumped l = 8 * fields_depth l.dumped.now.2 + 12
+
 abbrev pub decreases-sizes::nodes_of_fields : goal.decreases-sizes::nodes_of_fields
 decreases-sizes::nodes_of_fields l = 8 * fields_depth l.fields.now + 10
 

@@ -16,7 +16,7 @@ fn range(alloc: Global, excl: bool) -> Result<Value, Fail> {
     fields.push(Name::of(alloc, b"excl")?, Value::boolean(excl))?;
     fields.push(Name::of(alloc, b"begin")?, Value::int(1))?;
     fields.push(Name::of(alloc, b"end")?, Value::int(5))?;
-    Ok(Value::object(Name::of(alloc, b"Range")?, fields))
+    Ok(Value::object(alloc, Name::of(alloc, b"Range")?, fields)?)
 }
 
 fn in_range(alloc: Global, excl: bool, x: i128) -> Result<bool, Fail> {

@@ -2,7 +2,7 @@ use Rattle.std.proofs.Common.{◌≡◌, ℕ, ◌≢◌, Bool, true, false, List
 use Rattle.drb_tree.specs.declared.Tree.{Tree}
 use Rattle.drb_tree.specs.Same.{same, all_same, same_vars}
 use Rattle.drb_tree.specs.Sizes.{depth, pairs_depth, fields_depth}
-use Rattle.drb_value.proofs.Measures.{list_size, pairs_size, fields_size, hash_in, list_in, object_in, struct_in, dumped_in, wrapped_in, pairs_in, fields_in, item_in, pair_in, field_in}
+use Rattle.drb_value.proofs.Measures.{list_size, pairs_size, fields_size, hash_in, list_in, object_depth, vars_depth, object_in, struct_in, dumped_in, wrapped_in, pairs_in, fields_in, item_in, pair_in, field_in}
 use Rattle.drb_value.proofs.Nodes.{same_views}
 use Rattle.drb_value.proofs.equality.+same.Goals as goal
 
@@ -47,13 +47,13 @@ pub same_nodes-same_pairs-requires : goal.same_nodes-same_pairs-requires
 same_nodes-same_pairs-requires t c = (omega (arith, hash_in _ _ c.in-Hash.is), tt)
 
 pub same_nodes-same_objects-requires : goal.same_nodes-same_objects-requires
-same_nodes-same_objects-requires t c = (omega (arith, object_in _ _ c.in-Object.is), tt)
+same_nodes-same_objects-requires t c = (omega (arith, ap object_depth c.get.ensures, object_in _ _ c.in-Object.is), tt)
 
 pub same_nodes-same_objects-requires-in-Struct-m : goal.same_nodes-same_objects-requires-in-Struct-m
-same_nodes-same_objects-requires-in-Struct-m t c = (omega (arith, struct_in _ _ c.in-Struct.is), tt)
+same_nodes-same_objects-requires-in-Struct-m t c = (omega (arith, ap object_depth c.get-in-Struct-m.ensures, struct_in _ _ c.in-Struct.is), tt)
 
 pub same_nodes-same_dumped-requires : goal.same_nodes-same_dumped-requires
-same_nodes-same_dumped-requires t c = (omega (arith, dumped_in _ _ c.in-Dumped.is), tt)
+same_nodes-same_dumped-requires t c = (omega (arith, ap vars_depth c.get-in-Dumped-m.ensures, dumped_in _ _ c.in-Dumped.is), tt)
 
 pub same_nodes-same_wrapped-requires : goal.same_nodes-same_wrapped-requires
 same_nodes-same_wrapped-requires t c = (omega (arith, wrapped_in _ _ c.in-Wrapped.is), tt)

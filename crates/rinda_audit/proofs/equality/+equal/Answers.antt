@@ -1,6 +1,6 @@
 use Rattle.std.proofs.Common.{ap, arith}
 use Rattle.drb_tree.specs.Sizes.{depth, pairs_depth, fields_depth}
-use Rattle.drb_value.proofs.Measures.{list_size, pairs_size, fields_size, default_size, hash_in, list_in, object_in, struct_in, dumped_in, wrapped_in, pairs_in, fields_in, item_in, pair_in, field_in}
+use Rattle.drb_value.proofs.Measures.{list_size, pairs_size, fields_size, default_size, hash_in, list_in, object_depth, vars_depth, object_in, struct_in, dumped_in, wrapped_in, pairs_in, fields_in, item_in, pair_in, field_in}
 use Rattle.rinda_audit.proofs.Nodes.{equal_views}
 use Rattle.rinda_audit.proofs.equality.+equal.Goals as goal
 
@@ -26,13 +26,13 @@ pub equal_nodes-equal_hashes-requires : goal.equal_nodes-equal_hashes-requires
 equal_nodes-equal_hashes-requires t c = (omega (arith, hash_in _ _ c.in-Hash.is), tt)
 
 pub equal_nodes-equal_objects-requires : goal.equal_nodes-equal_objects-requires
-equal_nodes-equal_objects-requires t c = (omega (arith, object_in _ _ c.in-Object.is), tt)
+equal_nodes-equal_objects-requires t c = (omega (arith, ap object_depth c.get.ensures, object_in _ _ c.in-Object.is), tt)
 
 pub equal_nodes-equal_objects-requires-in-Struct : goal.equal_nodes-equal_objects-requires-in-Struct
-equal_nodes-equal_objects-requires-in-Struct t c = (omega (arith, struct_in _ _ c.in-Struct.is), tt)
+equal_nodes-equal_objects-requires-in-Struct t c = (omega (arith, ap object_depth c.get-in-Struct.ensures, struct_in _ _ c.in-Struct.is), tt)
 
 pub equal_nodes-equal_dumped-requires : goal.equal_nodes-equal_dumped-requires
-equal_nodes-equal_dumped-requires t c = (omega (arith, dumped_in _ _ c.in-Dumped.is), tt)
+equal_nodes-equal_dumped-requires t c = (omega (arith, ap vars_depth c.get-in-Dumped.ensures, dumped_in _ _ c.in-Dumped.is), tt)
 
 pub equal_nodes-equal_wrapped-requires : goal.equal_nodes-equal_wrapped-requires
 equal_nodes-equal_wrapped-requires t c = (omega (arith, wrapped_in _ _ c.in-Wrapped.is), tt)

@@ -1,9 +1,12 @@
 use Rattle.std.proofs.Common.{IsTrue, false, Option, ℕ, ◌+◌, ◌∷◌, [], List, length, map, drop, option_map, sym, ap, ◌∙◌, arith, rules}
 use Rattle.drb_tree.specs.declared.Tree.{Tree}
 use Rattle.drb_tree.specs.Sizes.{depth, pairs_depth, fields_depth}
+use Rattle.drb_tree.specs.declared.Remote.{Remote}
+use Rattle.drb_tree.specs.Kept.{remote_class}
+use Rattle.drb_value.specs.declared.Fields.{Fields}
 use Rattle.drb_value.specs.declared.Node.{Node}
-use Rattle.drb_value.proofs.Measures.{list_size, pairs_size, fields_size, default_size, hash_in, list_in, object_in, struct_in, dumped_in, wrapped_in, pairs_in, default_in, fields_in, item_in, pair_in, field_in}
-use Rattle.marshal_grammar.specs.Spelled.{Writing, these, ◌then◌, long_from, string_bytes_of, symbol_bytes, each_value, each_pair, each_field, hash_bytes, fields_bytes, dumped_bytes, writing}
+use Rattle.drb_value.proofs.Measures.{list_size, pairs_size, fields_size, default_size, hash_in, list_in, object_depth, vars_depth, object_in, struct_in, dumped_in, wrapped_in, pairs_in, default_in, fields_in, item_in, pair_in, field_in}
+use Rattle.marshal_grammar.specs.Spelled.{Writing, these, ◌then◌, long_from, string_bytes_of, symbol_bytes, each_value, each_pair, each_field, hash_bytes, fields_bytes, dumped_bytes, remote_bytes, writing}
 use Rattle.marshal_write.specs.Written.{default_bytes, hash_mark}
 use Rattle.marshal_write.proofs.Keys.{length-map-to}
 use Rattle.marshal_write.proofs.Steps.{writes_then, writes_as, written_as, stopped_as, written_joined, gave_up_first, gave_up_then, gave_up_third, gave_up_joined, then_assoc_4}
@@ -32,13 +35,13 @@ pub put_node-put_hash-requires : goal.put_node-put_hash-requires
 put_node-put_hash-requires t c = (omega (arith, hash_in _ _ c.in-Hash.is), tt)
 
 pub put_node-put_object-requires : goal.put_node-put_object-requires
-put_node-put_object-requires t c = (omega (arith, object_in _ _ c.in-Object.is), tt)
+put_node-put_object-requires t c = (omega (arith, ap object_depth c.get.ensures, object_in _ _ c.in-Object.is), tt)
 
 pub put_node-put_object-requires-in-Struct : goal.put_node-put_object-requires-in-Struct
-put_node-put_object-requires-in-Struct t c = (omega (arith, struct_in _ _ c.in-Struct.is), tt)
+put_node-put_object-requires-in-Struct t c = (omega (arith, ap object_depth c.get-in-Struct.ensures, struct_in _ _ c.in-Struct.is), tt)
 
 pub put_node-put_dumped-requires : goal.put_node-put_dumped-requires
-put_node-put_dumped-requires t c = (omega (arith, dumped_in _ _ c.in-Dumped.is), tt)
+put_node-put_dumped-requires t c = (omega (arith, ap vars_depth c.get-in-Dumped.ensures, dumped_in _ _ c.in-Dumped.is), tt)
 
 pub put_node-put_wrapped-requires : goal.put_node-put_wrapped-requires
 put_node-put_wrapped-requires t c = (omega (arith, wrapped_in _ _ c.in-Wrapped.is), tt)
@@ -89,6 +92,36 @@ put_node-returns-in-List t c =
     writes_as _ (writing_at c.args.node.now) _ _ _
     (ap (λ (ts : List Tree). (these (91 ∷ long_from (length (map writing ts))) then each_value (map writing ts)) s) c.as_slice-in-List.ensures ∙ sym (ap (λ (n : Node). writing_at n s) c.in-List.is))
     c.put_list.ensures
+
+-- what an object, a dumped value and a remote object write, whole
+abbrev object_at : ℕ → Fields → Writing
+object_at mark f = these (mark ∷ []) then symbol_bytes f.class then fields_bytes (map field_of f.fields)
+
+abbrev dumped_at : List ℕ × List ℕ × List (List ℕ × Tree) → Writing
+dumped_at d = dumped_bytes d.0 d.1 (map field_of d.2)
+
+abbrev remote_at : Remote → Writing
+remote_at r = these (117 ∷ []) then symbol_bytes remote_class then these (string_bytes_of (remote_bytes r))
+
+pub put_node-returns-in-Object : goal.put_node-returns-in-Object
+put_node-returns-in-Object t c =
+    let s = c.args.self.now.symbols in
+    writes_as _ (writing_at c.args.node.now) _ _ _ (ap (λ (f : Fields). object_at 111 f s) c.get.ensures ∙ sym (ap (λ (n : Node). writing_at n s) c.in-Object.is)) c.put_object.ensures
+
+pub put_node-returns-in-Struct : goal.put_node-returns-in-Struct
+put_node-returns-in-Struct t c =
+    let s = c.args.self.now.symbols in
+    writes_as _ (writing_at c.args.node.now) _ _ _ (ap (λ (f : Fields). object_at 83 f s) c.get-in-Struct.ensures ∙ sym (ap (λ (n : Node). writing_at n s) c.in-Struct.is)) c.put_object-in-Struct.ensures
+
+pub put_node-returns-in-Dumped : goal.put_node-returns-in-Dumped
+put_node-returns-in-Dumped t c =
+    let s = c.args.self.now.symbols in
+    writes_as _ (writing_at c.args.node.now) _ _ _ (ap (λ (d : List ℕ × List ℕ × List (List ℕ × Tree)). dumped_at d s) c.get-in-Dumped.ensures ∙ sym (ap (λ (n : Node). writing_at n s) c.in-Dumped.is)) c.put_dumped.ensures
+
+pub put_node-returns-in-Remote : goal.put_node-returns-in-Remote
+put_node-returns-in-Remote t c =
+    let s = c.args.self.now.symbols in
+    writes_as _ (writing_at c.args.node.now) _ _ _ (ap (λ (r : Remote). remote_at r s) c.get-in-Remote.ensures ∙ sym (ap (λ (n : Node). writing_at n s) c.in-Remote.is)) c.put_remote.ensures
 
 -- lists
 pub put_list-returns-in_err-put_count : goal.put_list-returns-in_err-put_count
