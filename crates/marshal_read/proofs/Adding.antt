@@ -1,5 +1,5 @@
 -- Steps that are added behind others.
-use Rattle.std.proofs.Common.{◌≡◌, ℕ, ◌+◌, List, [], ◌∷◌, ◌++◌, length, false, Some, None, IsTrue, refl, sym, ap, ◌∙◌, subst, append_assoc, append-nil, arith, length-append}
+use Rattle.std.proofs.Common.{◌≡◌, ℕ, ◌+◌, List, [], ◌∷◌, ◌++◌, length, false, Some, None, IsTrue, IsUtf8, refl, sym, ap, ◌∙◌, subst, append_assoc, append-nil, arith, length-append}
 use Rattle.std.proofs.Math.Seq.{drop-append_seam}
 use Rattle.drb_tree.specs.declared.Remote.{Remote}
 use Rattle.drb_tree.specs.declared.Tree.{Tree}
@@ -138,13 +138,13 @@ pairs_more a b c d e n h k l s new =
       ap (λ (m : Made). m.pairs) x.is,
     )
 
-field_made : (b c d : List Step) (s : List ℕ) → AddsOne b c → d ≡ c ++ (S.Field s ∷ []) → (Extends b d) × (Makes (since b d) (only_fields ((s, added b c) ∷ [])))
-field_made b c d s h l = (extends_step b c d (S.Field s) h.extends l, makes_step b c d (S.Field s) (single (added b c)) h.extends l h.makes (omega arith))
+field_made : (b c d : List Step) (s : List ℕ) → IsUtf8 s → AddsOne b c → d ≡ c ++ (S.Field s ∷ []) → (Extends b d) × (Makes (since b d) (only_fields ((s, added b c) ∷ [])))
+field_made b c d s u h l = (extends_step b c d (S.Field s) h.extends l, makes_step b c d (S.Field s) (single (added b c)) h.extends l h.makes (omega arith, u))
 
-pub fields_more : (a b c d : List Step) (n : ℕ) (s : List ℕ) → AddsFields a b n → AddsOne b c → d ≡ c ++ (S.Field s ∷ []) → has_name s (fields_in a b) ≡ false
+pub fields_more : (a b c d : List Step) (n : ℕ) (s : List ℕ) → IsUtf8 s → AddsFields a b n → AddsOne b c → d ≡ c ++ (S.Field s ∷ []) → has_name s (fields_in a b) ≡ false
     → (AddsFields a d (n + 1)) × (fields_in a d ≡ fields_in a b ++ ((s, added b c) ∷ []))
-fields_more a b c d n s h k l new =
-    let p = field_made b c d s k l in
+fields_more a b c d n s u h k l new =
+    let p = field_made b c d s u k l in
     let x = makes_on a b d (only_fields (fields_in a b)) (only_fields ((s, added b c) ∷ [])) h.extends p.0 h.holds.makes p.1 in
     let fs : List (List ℕ × Tree) = fields_in a b ++ ((s, added b c) ∷ []) in (
       record {
@@ -168,20 +168,20 @@ hash_ends ss n h =
     let ps = (made ss).pairs in
     ends_as ss (only_pairs ps) (S.Hash n) (hash ps None) h.makes (omega (arith, h.count), rw (back-all n ps (sym h.count)) h.distinct) (rw (front-all n ps (sym h.count), back-all n ps (sym h.count)) refl)
 
-pub object_ends : (ss : List Step) (c : List ℕ) (n : ℕ) → HoldsFields ss n → Makes (ss ++ (S.Object c n ∷ [])) (single (object c (made ss).fields))
-object_ends ss c n h =
+pub object_ends : (ss : List Step) (c : List ℕ) (n : ℕ) → IsUtf8 c → HoldsFields ss n → Makes (ss ++ (S.Object c n ∷ [])) (single (object c (made ss).fields))
+object_ends ss c n u h =
     let fs = (made ss).fields in
-    ends_as ss (only_fields fs) (S.Object c n) (object c fs) h.makes (omega (arith, h.count), rw (back-all n fs (sym h.count)) h.distinct) (rw (front-all n fs (sym h.count), back-all n fs (sym h.count)) refl)
+    ends_as ss (only_fields fs) (S.Object c n) (object c fs) h.makes (omega (arith, h.count), rw (back-all n fs (sym h.count)) h.distinct, u) (rw (front-all n fs (sym h.count), back-all n fs (sym h.count)) refl)
 
-pub struct_ends : (ss : List Step) (c : List ℕ) (n : ℕ) → HoldsFields ss n → Makes (ss ++ (S.Struct c n ∷ [])) (single (structure c (made ss).fields))
-struct_ends ss c n h =
+pub struct_ends : (ss : List Step) (c : List ℕ) (n : ℕ) → IsUtf8 c → HoldsFields ss n → Makes (ss ++ (S.Struct c n ∷ [])) (single (structure c (made ss).fields))
+struct_ends ss c n u h =
     let fs = (made ss).fields in
-    ends_as ss (only_fields fs) (S.Struct c n) (structure c fs) h.makes (omega (arith, h.count), rw (back-all n fs (sym h.count)) h.distinct) (rw (front-all n fs (sym h.count), back-all n fs (sym h.count)) refl)
+    ends_as ss (only_fields fs) (S.Struct c n) (structure c fs) h.makes (omega (arith, h.count), rw (back-all n fs (sym h.count)) h.distinct, u) (rw (front-all n fs (sym h.count), back-all n fs (sym h.count)) refl)
 
-pub dumped_ends : (ss : List Step) (x : Raw) (n : ℕ) → (x.class ≡ remote_class → ⊥) → HoldsFields ss n → Makes (ss ++ (S.Dumped x n ∷ [])) (single (dumped x.class x.bytes (made ss).fields))
-dumped_ends ss x n f h =
+pub dumped_ends : (ss : List Step) (x : Raw) (n : ℕ) → (x.class ≡ remote_class → ⊥) → IsUtf8 x.class → HoldsFields ss n → Makes (ss ++ (S.Dumped x n ∷ [])) (single (dumped x.class x.bytes (made ss).fields))
+dumped_ends ss x n f u h =
     let fs = (made ss).fields in
-    ends_as ss (only_fields fs) (S.Dumped x n) (dumped x.class x.bytes fs) h.makes (omega (arith, h.count), f, rw (back-all n fs (sym h.count)) h.distinct) (rw (front-all n fs (sym h.count), back-all n fs (sym h.count)) refl)
+    ends_as ss (only_fields fs) (S.Dumped x n) (dumped x.class x.bytes fs) h.makes (omega (arith, h.count), f, rw (back-all n fs (sym h.count)) h.distinct, u) (rw (front-all n fs (sym h.count), back-all n fs (sym h.count)) refl)
 
 pub remote_ends : (ss : List Step) (r : Remote) (n : ℕ) → HoldsFields ss n → Makes (ss ++ (S.Forget n ∷ S.Remote r ∷ [])) (single (remote r))
 remote_ends ss r n h =
@@ -190,8 +190,8 @@ remote_ends ss r n h =
     subst (λ (m : Made). Makes (ss ++ (S.Forget n ∷ [])) m) (rw (front-all n fs (sym h.count)) refl) (Makes-step ss (only_fields fs) (S.Forget n) h.makes (omega (arith, h.count))) in
     subst (λ (zs : List Step). Makes zs (single (remote r))) (append_assoc ss (S.Forget n ∷ []) (S.Remote r ∷ [])) (Makes-step (ss ++ (S.Forget n ∷ [])) nothing (S.Remote r) x tt)
 
-pub wrapped_ends : (ss : List Step) (c : List ℕ) → MakesOne ss → Makes (ss ++ (S.Wrapped c ∷ [])) (single (wrapped c (value_of ss)))
-wrapped_ends ss c h = ends_as ss (single (value_of ss)) (S.Wrapped c) (wrapped c (value_of ss)) h (omega arith) refl
+pub wrapped_ends : (ss : List Step) (c : List ℕ) → IsUtf8 c → MakesOne ss → Makes (ss ++ (S.Wrapped c ∷ [])) (single (wrapped c (value_of ss)))
+wrapped_ends ss c u h = ends_as ss (single (value_of ss)) (S.Wrapped c) (wrapped c (value_of ss)) h (omega arith, u) refl
 
 -- pairs, and a value behind them
 pub default_ends : (a b c : List Step) (n : ℕ) → AddsPairs a b n → AddsOne b c → Makes (since a c ++ (S.HashWithDefault n ∷ [])) (single (hash (pairs_in a b) (Some (added b c))))

@@ -18,7 +18,7 @@ use Rattle.marshal_read.proofs.Adding.{adds_leaf, remote_ends, dumped_ends}
 
 pub held_ends : (h : Held) (ss : List Step) (n : ℕ) → Foreign h → HoldsFields ss n → Makes (ss ++ held_steps h n) (single (V.held_value (held_is h) (made ss).fields))
 held_ends (H.Remote r) ss n f k = remote_ends ss r n k
-held_ends (H.Other c bs) ss n f k = dumped_ends ss (record { class = c; bytes = bs }) n f k
+held_ends (H.Other c bs) ss n f k = dumped_ends ss (record { class = c; bytes = bs }) n f.0 f.1 k
 
 pub held_one : (h g : Held) (ss : List Step) (n : ℕ) → h ≡ g → Foreign h → HoldsFields ss n → MakesOne (ss ++ held_steps g n)
 held_one h g ss n e f k = subst (λ (x : Held). MakesOne (ss ++ held_steps x n)) e (makes_one (ss ++ held_steps h n) (V.held_value (held_is h) (made ss).fields) (held_ends h ss n f k))

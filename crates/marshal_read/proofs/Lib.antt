@@ -5,6 +5,8 @@ pub mod Changes
 pub mod Repeated
 pub mod Rounds
 pub mod Names
+pub mod Leading
+pub mod Named
 pub mod Pieces
 pub mod Holding
 pub mod Loops

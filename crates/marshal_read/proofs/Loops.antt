@@ -12,11 +12,12 @@ use Rattle.marshal_read.specs.declared.error.ReadError.{ReadError}
 use Rattle.marshal_read.specs.declared.error.ReadError.TheVariants as error
 use Rattle.marshal_read.specs.declared.steps.Step.{Step}
 use Rattle.marshal_read.specs.declared.steps.Step.TheVariants as S
-use Rattle.marshal_read.specs.State.{State}
+use Rattle.marshal_read.specs.State.{State, Named}
 use Rattle.marshal_read.specs.Fails.{Fails, reading}
 use Rattle.marshal_read.specs.Making.{made, added, AddsOne, values_in, pairs_in, fields_in, AddsValues, AddsPairs, AddsFields, keys_of, key_in, names_of, name_in}
 use Rattle.marshal_read.proofs.Adding as A
 use Rattle.marshal_read.proofs.Adding.{since_self}
+use Rattle.marshal_read.proofs.Named.{Tame, name_named, read_leads}
 use Rattle.marshal_read.proofs.Pieces.{key_in-keys_of, name_in-names_of, with_front, values_go_on, values_fail, values_end, pairs_go_on, pairs_fail_first, pairs_duplicate, pairs_fail_value, pairs_end, fields_go_on, fields_fail_first, fields_duplicate, fields_fail_value, fields_end}
 
 -- how far the work is from its end: an inner dump is read within an outer one
@@ -32,16 +33,18 @@ with_front-nil (Err q) = refl
 pub record ValuesSo (total : Read (List Tree)) (part : Grammar Tree) (left i : ℕ) (first : List Step) (s : State) : Type 0 where
   pub same : total ≡ with_front (values_in first s.steps) (reading (values part left) s)
   pub adds : AddsValues first s.steps i
+  pub named : Named s
 
-pub values_more : (total : Read (List Tree)) (part : Grammar Tree) (n i : ℕ) (first : List Step) (s t : State) → i < n
+pub values_more : (total : Read (List Tree)) (part : Grammar Tree) (n i : ℕ) (first : List Step) (s t : State) → Tame part → i < n
     → ValuesSo total part (n - i) i first s → reading part s ≡ Ok (added s.steps t.steps, t.seen, t.rest) → AddsOne s.steps t.steps
     → ValuesSo total part (n - (i + 1)) (i + 1) first t
-values_more total part n i first s t lt so e one =
+values_more total part n i first s t tame lt so e one =
     let more = A.values_more first s.steps t.steps i so.adds one in
     record {
       same = so.same ∙ values_go_on part (values_in first s.steps) n i (added s.steps t.steps) s t lt e
           ∙ ap (λ (vs : List Tree). with_front vs (reading (values part (n - (i + 1))) t)) (sym more.1);
       adds = more.0;
+      named = read_leads tame s t (added s.steps t.steps) e so.named;
     }
 
 -- what a loop over pairs keeps, after i of them
@@ -49,16 +52,17 @@ pub record PairsSo (total : Read (List (Tree × Tree))) (part : Grammar Tree) (l
   pub same : total ≡ reading (pairs part (pairs_in first s.steps) left) s
   pub same_keys : keys ≡ keys_of (pairs_in first s.steps)
   pub adds : AddsPairs first s.steps i
+  pub named : Named s
 
 key_there : (b : Bool) (k : Tree) (ps : List (Tree × Tree)) (keys : List Tree) → keys ≡ keys_of ps → b ≡ key_in k keys → has_key k ps ≡ b
 key_there b k ps keys e d = sym (d ∙ ap (key_in k) e ∙ key_in-keys_of k ps)
 
 -- the readers after the key, after what it has, and after the step that makes their pair
-pub pairs_more : (total : Read (List (Tree × Tree))) (part : Grammar Tree) (n i : ℕ) (keys : List Tree) (first : List Step) (s t u w : State) (k : Tree) → i < n
+pub pairs_more : (total : Read (List (Tree × Tree))) (part : Grammar Tree) (n i : ℕ) (keys : List Tree) (first : List Step) (s t u w : State) (k : Tree) → Tame part → i < n
     → PairsSo total part (n - i) i keys first s → reading part s ≡ Ok (added s.steps t.steps, t.seen, t.rest) → AddsOne s.steps t.steps
     → k ≡ added s.steps t.steps → false ≡ key_in k keys → reading part t ≡ Ok (added t.steps u.steps, u.seen, u.rest) → AddsOne t.steps u.steps
     → w ≡ record u { steps = u.steps ++ (S.Pair ∷ []) } → PairsSo total part (n - (i + 1)) (i + 1) (keys ++ (k ∷ [])) first w
-pairs_more total part n i keys first s t u w k lt so e one kp d f two push =
+pairs_more total part n i keys first s t u w k tame lt so e one kp d f two push =
     let there : has_key (added s.steps t.steps) (pairs_in first s.steps) ≡ false =
     ap (λ (z : Tree). has_key z (pairs_in first s.steps)) (sym kp) ∙ key_there false k (pairs_in first s.steps) keys so.same_keys d in
     let more = A.pairs_more first s.steps t.steps u.steps w.steps i so.adds one two (ap (λ (z : State). z.steps) push) there in
@@ -72,6 +76,7 @@ pairs_more total part n i keys first s t u w k lt so e one kp d f two push =
           ∙ sym (map-append (λ (x : Tree × Tree). x.0) (pairs_in first s.steps) (p ∷ []))
           ∙ ap keys_of (sym more.1);
       adds = more.0;
+      named = subst Named (sym push) (read_leads tame t u (added t.steps u.steps) f (read_leads tame s t (added s.steps t.steps) e so.named));
     }
 
 -- what a loop over fields keeps, after i of them
@@ -79,19 +84,21 @@ pub record FieldsSo (total : Read (List (List ℕ × Tree))) (part : Grammar Tre
   pub same : total ≡ reading (fields part (fields_in first s.steps) left) s
   pub same_names : names ≡ names_of (fields_in first s.steps)
   pub adds : AddsFields first s.steps i
+  pub named : Named s
 
 name_there : (b : Bool) (n : List ℕ) (fs : List (List ℕ × Tree)) (names : List (List ℕ)) → names ≡ names_of fs → b ≡ name_in n names → has_name n fs ≡ b
 name_there b n fs names e d = sym (d ∙ ap (name_in n) e ∙ name_in-names_of n fs)
 
 -- the readers after the name, after what it has, and after the step that makes the field
-pub fields_more : (total : Read (List (List ℕ × Tree))) (part : Grammar Tree) (n i : ℕ) (names : List (List ℕ)) (first : List Step) (s t u w : State) (key : List ℕ) → i < n
+pub fields_more : (total : Read (List (List ℕ × Tree))) (part : Grammar Tree) (n i : ℕ) (names : List (List ℕ)) (first : List Step) (s t u w : State) (key : List ℕ) → Tame part → i < n
     → FieldsSo total part (n - i) i names first s → reading name s ≡ Ok (key, t.seen, t.rest) → t.steps ≡ s.steps
     → false ≡ name_in key names → reading part t ≡ Ok (added t.steps u.steps, u.seen, u.rest) → AddsOne t.steps u.steps
     → w ≡ record u { steps = u.steps ++ (S.Field key ∷ []) } → FieldsSo total part (n - (i + 1)) (i + 1) (names ++ (key ∷ [])) first w
-fields_more total part n i names first s t u w key lt so e kept d f one push =
+fields_more total part n i names first s t u w key tame lt so e kept d f one push =
+    let name_is = read_leads name_named s t key e so.named in
     let there : has_name key (fields_in first s.steps) ≡ false = name_there false key (fields_in first s.steps) names so.same_names d in
     let one_here : AddsOne s.steps u.steps = subst (λ (ss : List Step). AddsOne ss u.steps) kept one in
-    let more = A.fields_more first s.steps u.steps w.steps i key so.adds one_here (ap (λ (z : State). z.steps) push) there in
+    let more = A.fields_more first s.steps u.steps w.steps i key name_is.1 so.adds one_here (ap (λ (z : State). z.steps) push) there in
     let v : added t.steps u.steps ≡ added s.steps u.steps = ap (λ (ss : List Step). added ss u.steps) kept in
     record {
       same = so.same ∙ fields_go_on part (fields_in first s.steps) n i key (added t.steps u.steps) s t u lt e there f
@@ -102,36 +109,40 @@ fields_more total part n i names first s t u w key lt so e kept d f one push =
           ∙ sym (map-append (λ (x : List ℕ × Tree). x.0) (fields_in first s.steps) ((key, added s.steps u.steps) ∷ []))
           ∙ ap names_of (sym more.1);
       adds = more.0;
+      named = subst Named (sym push) (read_leads tame t u (added t.steps u.steps) f name_is.0);
     }
 
 -- before the first part
-pub values_begin : (part : Grammar Tree) (n : ℕ) (s : State) → ValuesSo (reading (values part n) s) part (n - 0) 0 s.steps s
-values_begin part n s =
+pub values_begin : (part : Grammar Tree) (n : ℕ) (s : State) → Named s → ValuesSo (reading (values part n) s) part (n - 0) 0 s.steps s
+values_begin part n s h =
     let k : n ≡ n - 0 = omega arith in
     let none : values_in s.steps s.steps ≡ [] = ap (λ (ss : List Step). (made ss).values) (since_self s.steps) in
     record {
       same = ap (λ (j : ℕ). reading (values part j) s) k ∙ with_front-nil (reading (values part (n - 0)) s) ∙ ap (λ (vs : List Tree). with_front vs (reading (values part (n - 0)) s)) (sym none);
       adds = A.values_begin s.steps;
+      named = h;
     }
 
-pub pairs_begin : (part : Grammar Tree) (n : ℕ) (keys : List Tree) (s : State) → keys ≡ [] → PairsSo (reading (pairs part [] n) s) part (n - 0) 0 keys s.steps s
-pairs_begin part n keys s d =
+pub pairs_begin : (part : Grammar Tree) (n : ℕ) (keys : List Tree) (s : State) → keys ≡ [] → Named s → PairsSo (reading (pairs part [] n) s) part (n - 0) 0 keys s.steps s
+pairs_begin part n keys s d h =
     let k : n ≡ n - 0 = omega arith in
     let none : pairs_in s.steps s.steps ≡ [] = ap (λ (ss : List Step). (made ss).pairs) (since_self s.steps) in
     record {
       same = ap (λ (j : ℕ). reading (pairs part [] j) s) k ∙ ap (λ (ps : List (Tree × Tree)). reading (pairs part ps (n - 0)) s) (sym none);
       same_keys = d ∙ ap keys_of (sym none);
       adds = A.pairs_begin s.steps;
+      named = h;
     }
 
-pub fields_begin : (part : Grammar Tree) (n : ℕ) (names : List (List ℕ)) (s : State) → names ≡ [] → FieldsSo (reading (fields part [] n) s) part (n - 0) 0 names s.steps s
-fields_begin part n names s d =
+pub fields_begin : (part : Grammar Tree) (n : ℕ) (names : List (List ℕ)) (s : State) → names ≡ [] → Named s → FieldsSo (reading (fields part [] n) s) part (n - 0) 0 names s.steps s
+fields_begin part n names s d h =
     let k : n ≡ n - 0 = omega arith in
     let none : fields_in s.steps s.steps ≡ [] = ap (λ (ss : List Step). (made ss).fields) (since_self s.steps) in
     record {
       same = ap (λ (j : ℕ). reading (fields part [] j) s) k ∙ ap (λ (fs : List (List ℕ × Tree)). reading (fields part fs (n - 0)) s) (sym none);
       same_names = d ∙ ap names_of (sym none);
       adds = A.fields_begin s.steps;
+      named = h;
     }
 
 -- a reading that is another one fails as that does

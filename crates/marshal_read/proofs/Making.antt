@@ -73,7 +73,7 @@ after-join r m S.Pair h =
     let k : 1 ≤ length m.values = omega (arith, h) in
     let l : 1 ≤ length (front 1 m.values) = omega (arith, h, length-front 1 m.values) in
     rw (front-join 1 r.values m.values k, front-join 1 r.values (front 1 m.values) l, last-join r.values m.values k, last-join r.values (front 1 m.values) l, append_assoc r.pairs m.pairs ((last (front 1 m.values), last m.values) ∷ [])) refl
-after-join r m (S.Field s) h = rw (front-join 1 r.values m.values h, last-join r.values m.values h, append_assoc r.fields m.fields ((s, last m.values) ∷ [])) refl
+after-join r m (S.Field s) h = rw (front-join 1 r.values m.values h.0, last-join r.values m.values h.0, append_assoc r.fields m.fields ((s, last m.values) ∷ [])) refl
 after-join r m (S.Hash n) h = rw (back-join n r.pairs m.pairs h.0) (put_for_pairs-join r m n (hash (back n m.pairs) None) h.0)
 after-join r m (S.HashWithDefault n) h =
     rw (front-join 1 r.values m.values h.0, last-join r.values m.values h.0, back-join n r.pairs m.pairs h.1, front-join n r.pairs m.pairs h.1, append_assoc r.values (front 1 m.values) (hash (back n m.pairs) (Some (last m.values)) ∷ [])) refl
@@ -82,27 +82,27 @@ after-join r m (S.Struct c n) h = rw (back-join n r.fields m.fields h.0) (put_fo
 after-join r m (S.Dumped x n) h = rw (back-join n r.fields m.fields h.0) (put_for_fields-join r m n (dumped x.class x.bytes (back n m.fields)) h.0)
 after-join r m (S.Remote x) h = put-join r m (remote x)
 after-join r m (S.Forget n) h = rw (front-join n r.fields m.fields h) refl
-after-join r m (S.Wrapped c) h = rw (last-join r.values m.values h) (put_for_last-join r m (wrapped c (last m.values)) h)
+after-join r m (S.Wrapped c) h = rw (last-join r.values m.values h.0) (put_for_last-join r m (wrapped c (last m.values)) h.0)
 
 pub fits-join : (r m : Made) (s : Step) → Fits m s → Fits (join r m) s
 fits-join r m S.Nil h = tt
 fits-join r m (S.Bool b) h = tt
 fits-join r m (S.Int i) h = tt
-fits-join r m (S.Sym s) h = tt
+fits-join r m (S.Sym s) h = h
 fits-join r m (S.Text s code) h = tt
-fits-join r m (S.Class s) h = tt
-fits-join r m (S.Module s) h = tt
+fits-join r m (S.Class s) h = h
+fits-join r m (S.Module s) h = h
 fits-join r m (S.List n) h = omega (arith, h, length-append r.values m.values)
 fits-join r m S.Pair h = omega (arith, h, length-append r.values m.values)
-fits-join r m (S.Field s) h = omega (arith, h, length-append r.values m.values)
+fits-join r m (S.Field s) h = (omega (arith, h.0, length-append r.values m.values), h.1)
 fits-join r m (S.Hash n) h = (omega (arith, h.0, length-append r.pairs m.pairs), rw (back-join n r.pairs m.pairs h.0) h.1)
 fits-join r m (S.HashWithDefault n) h = (omega (arith, h.0, length-append r.values m.values), omega (arith, h.1, length-append r.pairs m.pairs), rw (back-join n r.pairs m.pairs h.1) h.2)
-fits-join r m (S.Object c n) h = (omega (arith, h.0, length-append r.fields m.fields), rw (back-join n r.fields m.fields h.0) h.1)
-fits-join r m (S.Struct c n) h = (omega (arith, h.0, length-append r.fields m.fields), rw (back-join n r.fields m.fields h.0) h.1)
-fits-join r m (S.Dumped x n) h = (omega (arith, h.0, length-append r.fields m.fields), h.1, rw (back-join n r.fields m.fields h.0) h.2)
+fits-join r m (S.Object c n) h = (omega (arith, h.0, length-append r.fields m.fields), rw (back-join n r.fields m.fields h.0) h.1, h.2)
+fits-join r m (S.Struct c n) h = (omega (arith, h.0, length-append r.fields m.fields), rw (back-join n r.fields m.fields h.0) h.1, h.2)
+fits-join r m (S.Dumped x n) h = (omega (arith, h.0, length-append r.fields m.fields), h.1, rw (back-join n r.fields m.fields h.0) h.2, h.3)
 fits-join r m (S.Remote x) h = tt
 fits-join r m (S.Forget n) h = omega (arith, h, length-append r.fields m.fields)
-fits-join r m (S.Wrapped c) h = omega (arith, h, length-append r.values m.values)
+fits-join r m (S.Wrapped c) h = (omega (arith, h.0, length-append r.values m.values), h.1)
 
 pub after_all-join : (r m : Made) (ss : List Step) → AllFit m ss → after_all (join r m) ss ≡ join r (after_all m ss)
 after_all-join r m [] h = refl
@@ -150,10 +150,10 @@ pub leaf_makes : (s : Step) → Leaf s → MakesOne (s ∷ [])
 leaf_makes S.Nil h = record { fit = (tt, tt); is = refl }
 leaf_makes (S.Bool b) h = record { fit = (tt, tt); is = refl }
 leaf_makes (S.Int i) h = record { fit = (tt, tt); is = refl }
-leaf_makes (S.Sym s) h = record { fit = (tt, tt); is = refl }
+leaf_makes (S.Sym s) h = record { fit = (h, tt); is = refl }
 leaf_makes (S.Text s code) h = record { fit = (tt, tt); is = refl }
-leaf_makes (S.Class s) h = record { fit = (tt, tt); is = refl }
-leaf_makes (S.Module s) h = record { fit = (tt, tt); is = refl }
+leaf_makes (S.Class s) h = record { fit = (h, tt); is = refl }
+leaf_makes (S.Module s) h = record { fit = (h, tt); is = refl }
 leaf_makes (S.Remote x) h = record { fit = (tt, tt); is = refl }
 leaf_makes (S.List _) h = elim h [ ]
 leaf_makes S.Pair h = elim h [ ]

@@ -1,5 +1,5 @@
 -- What steps make, one after the other.
-use Rattle.std.specs.Prelude.{ℕ, ◌-◌, ◌≤◌, ◌≡◌, List, [], ◌∷◌, ◌++◌, length, map, take, drop, Option, Some, None, option_map, Bool, true, false, ◌||◌, IsTrue, bytes_eq}
+use Rattle.std.specs.Prelude.{ℕ, ◌-◌, ◌≤◌, ◌≡◌, List, [], ◌∷◌, ◌++◌, length, map, take, drop, Option, Some, None, option_map, Bool, true, false, ◌||◌, IsTrue, IsUtf8, bytes_eq}
 use Rattle.drb_tree.specs.declared.Tree.{Tree}
 use Rattle.drb_tree.specs.Same.{same}
 use Rattle.drb_tree.specs.Kept.{keys_distinct, names_distinct, remote_class}
@@ -71,22 +71,28 @@ after m (S.Remote r) = put (remote r) m
 after m (S.Forget n) = record m { fields = front n m.fields }
 after m (S.Wrapped c) = put_for_last (wrapped c (last m.values)) m
 
--- a step finds what it takes, and what it makes of that is a value
+-- a step finds what it takes, what it makes of that is a value, and its name is UTF-8
 abbrev pub Fits : Made → Step → Type 0
+Fits m (S.Sym s) = IsUtf8 s
+Fits m (S.Class s) = IsUtf8 s
+Fits m (S.Module s) = IsUtf8 s
 Fits m (S.List n) = n ≤ length m.values
 Fits m S.Pair = 2 ≤ length m.values
-Fits m (S.Field s) = 1 ≤ length m.values
+Fits m (S.Field s) = (1 ≤ length m.values) × IsUtf8 s
 Fits m (S.Hash n) = (n ≤ length m.pairs) × IsTrue (keys_distinct (back n m.pairs))
 Fits m (S.HashWithDefault n) = (1 ≤ length m.values) × (n ≤ length m.pairs) × IsTrue (keys_distinct (back n m.pairs))
-Fits m (S.Object c n) = (n ≤ length m.fields) × IsTrue (names_distinct (back n m.fields))
-Fits m (S.Struct c n) = (n ≤ length m.fields) × IsTrue (names_distinct (back n m.fields))
-Fits m (S.Dumped r n) = (n ≤ length m.fields) × (r.class ≡ remote_class → ⊥) × IsTrue (names_distinct (back n m.fields))
+Fits m (S.Object c n) = (n ≤ length m.fields) × IsTrue (names_distinct (back n m.fields)) × IsUtf8 c
+Fits m (S.Struct c n) = (n ≤ length m.fields) × IsTrue (names_distinct (back n m.fields)) × IsUtf8 c
+Fits m (S.Dumped r n) = (n ≤ length m.fields) × (r.class ≡ remote_class → ⊥) × IsTrue (names_distinct (back n m.fields)) × IsUtf8 r.class
 Fits m (S.Forget n) = n ≤ length m.fields
-Fits m (S.Wrapped c) = 1 ≤ length m.values
+Fits m (S.Wrapped c) = (1 ≤ length m.values) × IsUtf8 c
 Fits m _ = Unit {0}
 
--- a step that takes nothing
+-- a step that takes nothing, and whose name is UTF-8
 abbrev pub Leaf : Step → Type 0
+Leaf (S.Sym s) = IsUtf8 s
+Leaf (S.Class s) = IsUtf8 s
+Leaf (S.Module s) = IsUtf8 s
 Leaf (S.List n) = ⊥
 Leaf S.Pair = ⊥
 Leaf (S.Field s) = ⊥

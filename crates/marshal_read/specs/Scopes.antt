@@ -1,5 +1,5 @@
 -- Where a value stands: in a dump, or in the inner dump of a remote object.
-use Rattle.std.specs.Prelude.{ℕ, ◌≡◌, Bool, true, false, List, [], ◌∷◌, Option, Some, None, Ok, Err}
+use Rattle.std.specs.Prelude.{ℕ, ◌≡◌, Bool, true, false, List, [], ◌∷◌, Option, Some, None, Ok, Err, IsUtf8}
 use Rattle.std.proofs.Common.{inl, inr}
 use Rattle.drb_tree.specs.declared.Remote.{Remote}
 use Rattle.drb_tree.specs.declared.Tree.{Tree}
@@ -39,10 +39,10 @@ abbrev pub held_steps : Held → ℕ → List Step
 held_steps (H.Remote r) n = S.Forget n ∷ S.Remote r ∷ []
 held_steps (H.Other c bs) n = S.Dumped (record { class = c; bytes = bs }) n ∷ []
 
--- the class of anything else is not that of remote objects
+-- the class of anything else is not that of remote objects, and is UTF-8
 abbrev pub Foreign : Held → Type 0
 Foreign (H.Remote r) = Unit {0}
-Foreign (H.Other c bs) = c ≡ remote_class → ⊥
+Foreign (H.Other c bs) = (c ≡ remote_class → ⊥) × IsUtf8 c
 
 -- the value of a class and fields: a struct, or an object
 abbrev pub fields_form : Bool → List ℕ → List (List ℕ × Tree) → Tree

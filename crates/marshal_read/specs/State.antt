@@ -1,5 +1,5 @@
 -- What a reader is between two steps.
-use Rattle.std.specs.Prelude.{ℕ, List}
+use Rattle.std.specs.Prelude.{ℕ, List, All, IsUtf8}
 use Rattle.marshal_grammar.specs.declared.refusal.Refusal.{Refusal}
 use Rattle.marshal_grammar.specs.Contexts.{Context}
 use Rattle.marshal_read.specs.declared.steps.Step.{Step}
@@ -10,3 +10,7 @@ pub record State : Type 0 where
   pub seen : Context
   pub steps : List Step
   pub refused : Refusal
+
+-- each symbol so far is UTF-8
+abbrev pub Named : State → Type 0
+Named s = All IsUtf8 s.seen.symbols

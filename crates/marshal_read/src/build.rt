@@ -1,13 +1,13 @@
 //! The value that steps make.
 
-ghost use Rattle.std.specs.Prelude.{◌≡◌, ℕ, ◌≤◌, List, [], ◌∷◌, ◌++◌, length, Some, None, IfOk, OnOk, IsTrue};
+ghost use Rattle.std.specs.Prelude.{◌≡◌, ℕ, ◌≤◌, List, [], ◌∷◌, ◌++◌, length, Some, None, IfOk, OnOk, IsTrue, IsUtf8};
 ghost use Rattle.drb_tree.specs.Kept.{keys_distinct, names_distinct, remote_class};
 ghost use Rattle.marshal_grammar.specs.Trees.{hash, object, structure, dumped, wrapped};
 ghost use Rattle.marshal_read.specs.Making.{Made, nothing, front, back, last, put, after, Fits, AllFit, value_of};
 
 use crate::span::Span;
-use crate::steps::Step;
-use drb_value::{Boxed, Dumped, FieldList, Items, Name, Pairs, Text, Value};
+use crate::steps::{Raw, Step};
+use drb_value::{Code, Dumped, FieldList, Items, Name, Pairs, Remote, Text, Value};
 use std::alloc::{AllocError, Global};
 use std::marker::Model;
 
@@ -54,13 +54,12 @@ fn split<T>(items: &mut Vec<T>, n: usize) -> Result<Items<T>, AllocError>
 }
 
 /// A name of these bytes.
-fn name(alloc: Global, bytes: &Span) -> Result<Name, AllocError>
+fn name_of(alloc: Global, bytes: &Span) -> Result<Name, AllocError>
+    requires { IsUtf8 bytes.now }
     ensures { IfOk result (λ n. n ≡ bytes.now) }
 {
-    match Name::of(alloc, bytes.as_slice()) {
-        Ok(name) => Ok(name),
-        Err(_) => Err(AllocError),
-    }
+    let bytes = Items::from_slice(alloc, bytes.as_slice())?;
+    Ok(Name { bytes })
 }
 
 impl Parts {
@@ -93,7 +92,7 @@ impl Parts {
         }
     }
 
-    /// Takes a step.
+    /// Takes a step. What makes a part is out of line, so that the loop over the steps has few words of its own to clear.
     fn take(&mut self, alloc: Global, step: &Step) -> Result<(), AllocError>
         requires { Fits self.old step.now }
         ensures { OnOk result (self.new ≡ after self.old step.now) }
@@ -102,28 +101,21 @@ impl Parts {
             Step::Nil => self.put(Value::nil()),
             Step::Bool(truth) => self.put(Value::boolean(*truth)),
             Step::Int(number) => self.put(Value::int(*number)),
-            Step::Sym(bytes) => self.put(Value::sym(name(alloc, bytes)?)),
-            Step::Text(bytes, code) => self.put(Value::text(Text::of(
-                alloc,
-                bytes.as_slice(),
-                *code,
-            )?)),
-            Step::Class(bytes) => self.put(Value::class(name(alloc, bytes)?)),
-            Step::Module(bytes) => self.put(Value::module(name(alloc, bytes)?)),
+            Step::Sym(name) => self.sym(alloc, name),
+            Step::Text(bytes, code) => self.text(alloc, bytes, *code),
+            Step::Class(name) => self.class(alloc, name),
+            Step::Module(name) => self.module(alloc, name),
             Step::List(n) => self.list(*n),
             Step::Pair => self.pair(),
-            Step::Field(bytes) => self.field(name(alloc, bytes)?),
+            Step::Field(name) => self.field(alloc, name),
             Step::Hash(n) => self.hash(*n),
             Step::HashWithDefault(n) => self.hash_with_default(alloc, *n),
-            Step::Object(class, n) => self.object(alloc, name(alloc, class)?, *n),
-            Step::Struct(class, n) => self.structure(alloc, name(alloc, class)?, *n),
-            Step::Dumped(raw, n) => {
-                let raw = raw.get();
-                self.dumped(alloc, name(alloc, &raw.class)?, &raw.bytes, *n)
-            }
-            Step::Remote(remote) => self.put(Value::remote(alloc, remote.get().copy(alloc)?)?),
+            Step::Object(class, n) => self.object(alloc, class, *n),
+            Step::Struct(class, n) => self.structure(alloc, class, *n),
+            Step::Dumped(raw, n) => self.dumped(alloc, raw.get(), *n),
+            Step::Remote(remote) => self.remote(alloc, remote.get()),
             Step::Forget(n) => self.forget(*n),
-            Step::Wrapped(class) => self.wrapped(alloc, name(alloc, class)?),
+            Step::Wrapped(class) => self.wrapped(alloc, class),
         }
     }
 
@@ -146,6 +138,50 @@ impl Parts {
         }
     }
 
+    #[inline(never)]
+    fn sym(&mut self, alloc: Global, name: &Span) -> Result<(), AllocError>
+        requires { IsUtf8 name.now }
+        ensures { OnOk result (self.new ≡ after self.old (Step.Sym name.now)) }
+    {
+        let name = name_of(alloc, name)?;
+        self.put(Value::sym(name))
+    }
+
+    #[inline(never)]
+    fn text(&mut self, alloc: Global, bytes: &Span, code: Code) -> Result<(), AllocError>
+        ensures { OnOk result (self.new ≡ after self.old (Step.Text bytes.now code)) }
+    {
+        let text = Text::of(alloc, bytes.as_slice(), code)?;
+        self.put(Value::text(text))
+    }
+
+    #[inline(never)]
+    fn class(&mut self, alloc: Global, name: &Span) -> Result<(), AllocError>
+        requires { IsUtf8 name.now }
+        ensures { OnOk result (self.new ≡ after self.old (Step.Class name.now)) }
+    {
+        let name = name_of(alloc, name)?;
+        self.put(Value::class(name))
+    }
+
+    #[inline(never)]
+    fn module(&mut self, alloc: Global, name: &Span) -> Result<(), AllocError>
+        requires { IsUtf8 name.now }
+        ensures { OnOk result (self.new ≡ after self.old (Step.Module name.now)) }
+    {
+        let name = name_of(alloc, name)?;
+        self.put(Value::module(name))
+    }
+
+    #[inline(never)]
+    fn remote(&mut self, alloc: Global, remote: &Remote) -> Result<(), AllocError>
+        ensures { OnOk result (self.new ≡ after self.old (Step.Remote remote.now)) }
+    {
+        let remote = remote.copy(alloc)?;
+        self.put(Value::remote(alloc, remote)?)
+    }
+
+    #[inline(never)]
     fn list(&mut self, n: usize) -> Result<(), AllocError>
         requires { n ≤ length self.old.values }
         ensures { OnOk result (self.new ≡ after self.old (Step.List n)) }
@@ -154,6 +190,7 @@ impl Parts {
         self.put(Value::list(items))
     }
 
+    #[inline(never)]
     fn pair(&mut self) -> Result<(), AllocError>
         requires { 2 ≤ length self.old.values }
         ensures { OnOk result (self.new ≡ after self.old Step.Pair) }
@@ -164,10 +201,12 @@ impl Parts {
         Ok(())
     }
 
-    fn field(&mut self, name: Name) -> Result<(), AllocError>
-        requires { 1 ≤ length self.old.values }
-        ensures { OnOk result (self.new ≡ after self.old (Step.Field name)) }
+    #[inline(never)]
+    fn field(&mut self, alloc: Global, name: &Span) -> Result<(), AllocError>
+        requires { (1 ≤ length self.old.values) × IsUtf8 name.now }
+        ensures { OnOk result (self.new ≡ after self.old (Step.Field name.now)) }
     {
+        let name = name_of(alloc, name)?;
         let value = self.last();
         self.fields.push((name, value))?;
         Ok(())
@@ -186,6 +225,7 @@ impl Parts {
         })
     }
 
+    #[inline(never)]
     fn hash(&mut self, n: usize) -> Result<(), AllocError>
         requires { (n ≤ length self.old.pairs) × IsTrue (keys_distinct (back n self.old.pairs)) }
         ensures { OnOk result (self.new ≡ after self.old (Step.Hash n)) }
@@ -194,6 +234,7 @@ impl Parts {
         self.put(Value::hash(pairs))
     }
 
+    #[inline(never)]
     fn hash_with_default(&mut self, alloc: Global, n: usize) -> Result<(), AllocError>
         requires { (1 ≤ length self.old.values) × (n ≤ length self.old.pairs) × IsTrue (keys_distinct (back n self.old.pairs)) }
         ensures { OnOk result (self.new ≡ after self.old (Step.HashWithDefault n)) }
@@ -213,37 +254,38 @@ impl Parts {
         Ok(FieldList { list })
     }
 
-    fn object(&mut self, alloc: Global, class: Name, n: usize) -> Result<(), AllocError>
-        requires { (n ≤ length self.old.fields) × IsTrue (names_distinct (back n self.old.fields)) }
-        ensures { OnOk result (self.new ≡ after self.old (Step.Object class n)) }
+    #[inline(never)]
+    fn object(&mut self, alloc: Global, class: &Span, n: usize) -> Result<(), AllocError>
+        requires { (n ≤ length self.old.fields) × IsTrue (names_distinct (back n self.old.fields)) × IsUtf8 class.now }
+        ensures { OnOk result (self.new ≡ after self.old (Step.Object class.now n)) }
     {
+        let class = name_of(alloc, class)?;
         let fields = self.fields(n)?;
         self.put(Value::object(alloc, class, fields)?)
     }
 
-    fn structure(&mut self, alloc: Global, class: Name, n: usize) -> Result<(), AllocError>
-        requires { (n ≤ length self.old.fields) × IsTrue (names_distinct (back n self.old.fields)) }
-        ensures { OnOk result (self.new ≡ after self.old (Step.Struct class n)) }
+    #[inline(never)]
+    fn structure(&mut self, alloc: Global, class: &Span, n: usize) -> Result<(), AllocError>
+        requires { (n ≤ length self.old.fields) × IsTrue (names_distinct (back n self.old.fields)) × IsUtf8 class.now }
+        ensures { OnOk result (self.new ≡ after self.old (Step.Struct class.now n)) }
     {
+        let class = name_of(alloc, class)?;
         let fields = self.fields(n)?;
         self.put(Value::structure(alloc, class, fields)?)
     }
 
-    fn dumped(
-        &mut self,
-        alloc: Global,
-        class: Name,
-        bytes: &Span,
-        n: usize,
-    ) -> Result<(), AllocError>
-        requires { (n ≤ length self.old.fields) × (class ≡ remote_class → ⊥) × IsTrue (names_distinct (back n self.old.fields)) }
-        ensures { OnOk result (self.new ≡ after self.old (Step.Dumped (record { class = class; bytes = bytes.now }) n)) }
+    #[inline(never)]
+    fn dumped(&mut self, alloc: Global, raw: &Raw, n: usize) -> Result<(), AllocError>
+        requires { (n ≤ length self.old.fields) × (raw.now.class ≡ remote_class → ⊥) × IsTrue (names_distinct (back n self.old.fields)) × IsUtf8 raw.now.class }
+        ensures { OnOk result (self.new ≡ after self.old (Step.Dumped raw.now n)) }
     {
+        let class = name_of(alloc, &raw.class)?;
         let fields = self.fields(n)?;
-        let bytes = Items::from_slice(alloc, bytes.as_slice())?;
+        let bytes = Items::from_slice(alloc, raw.bytes.as_slice())?;
         self.put(Value::dumped(alloc, Dumped::of(class, bytes, fields))?)
     }
 
+    #[inline(never)]
     fn forget(&mut self, n: usize) -> Result<(), AllocError>
         requires { n ≤ length self.old.fields }
         ensures { OnOk result (self.new ≡ after self.old (Step.Forget n)) }
@@ -252,10 +294,12 @@ impl Parts {
         Ok(())
     }
 
-    fn wrapped(&mut self, alloc: Global, class: Name) -> Result<(), AllocError>
-        requires { 1 ≤ length self.old.values }
-        ensures { OnOk result (self.new ≡ after self.old (Step.Wrapped class)) }
+    #[inline(never)]
+    fn wrapped(&mut self, alloc: Global, class: &Span) -> Result<(), AllocError>
+        requires { (1 ≤ length self.old.values) × IsUtf8 class.now }
+        ensures { OnOk result (self.new ≡ after self.old (Step.Wrapped class.now)) }
     {
+        let class = name_of(alloc, class)?;
         let inner = self.last();
         self.put(Value::wrapped(alloc, class, inner)?)
     }

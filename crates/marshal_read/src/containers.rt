@@ -7,6 +7,7 @@ ghost use Rattle.marshal_grammar.specs.Reading.{read};
 ghost use Rattle.marshal_grammar.specs.Dumps.{dump_with};
 ghost use Rattle.marshal_grammar.specs.Values.{body, list_value, hash_value, default_hash_value, fields_value, wrapped_value, marked_value, marked_dumped, dumped_value, held};
 ghost use Rattle.marshal_read.specs.Fails.{Fails, reading, error_of};
+ghost use Rattle.marshal_read.specs.State.{Named};
 ghost use Rattle.marshal_read.specs.Making.{added, AddsOne};
 ghost use Rattle.marshal_read.specs.Scopes.{reference_in, part_in, given, held_is, Foreign, fields_form};
 
@@ -25,7 +26,8 @@ impl<'a> Reader<'a> {
     /// A value, where so many levels are left, itself among them.
     #[cycle(read)]
     pub fn value(&mut self, alloc: Global, nested: bool, room: usize) -> Result<(), Stop>
-        requires { room ≤ 128 }
+        requires room { room ≤ 128 }
+        requires named { Named self.old }
         ensures ok { OnOk result (reading (part_in nested room) self.old ≡ Ok (added self.old.steps self.new.steps, self.new.seen, self.new.rest)) }
         ensures adds { OnOk result (AddsOne self.old.steps self.new.steps) }
         ensures err { IfErr result (λ e. Fails (error_of e self.new.refused) (reading (part_in nested room) self.old)) }
@@ -52,7 +54,8 @@ impl<'a> Reader<'a> {
         at: usize,
         kind: Kind,
     ) -> Result<(), Stop>
-        requires { room < 128 }
+        requires room { room < 128 }
+        requires named { Named self.old }
         ensures ok { OnOk result (reading (body (reference_in nested) (part_in nested room) (suc room) kind at) self.old ≡ Ok (added self.old.steps self.new.steps, self.new.seen, self.new.rest)) }
         ensures adds { OnOk result (AddsOne self.old.steps self.new.steps) }
         ensures err { IfErr result (λ e. Fails (error_of e self.new.refused) (reading (body (reference_in nested) (part_in nested room) (suc room) kind at) self.old)) }
@@ -90,7 +93,8 @@ impl<'a> Reader<'a> {
         room: usize,
         at: usize,
     ) -> Result<(), Stop>
-        requires { room < 128 }
+        requires room { room < 128 }
+        requires named { Named self.old }
         ensures ok { OnOk result (reading (list_value (part_in nested room) at) self.old ≡ Ok (added self.old.steps self.new.steps, self.new.seen, self.new.rest)) }
         ensures adds { OnOk result (AddsOne self.old.steps self.new.steps) }
         ensures err { IfErr result (λ e. Fails (error_of e self.new.refused) (reading (list_value (part_in nested room) at) self.old)) }
@@ -111,7 +115,8 @@ impl<'a> Reader<'a> {
         room: usize,
         at: usize,
     ) -> Result<(), Stop>
-        requires { room < 128 }
+        requires room { room < 128 }
+        requires named { Named self.old }
         ensures ok { OnOk result (reading (hash_value (part_in nested room) at) self.old ≡ Ok (added self.old.steps self.new.steps, self.new.seen, self.new.rest)) }
         ensures adds { OnOk result (AddsOne self.old.steps self.new.steps) }
         ensures err { IfErr result (λ e. Fails (error_of e self.new.refused) (reading (hash_value (part_in nested room) at) self.old)) }
@@ -132,7 +137,8 @@ impl<'a> Reader<'a> {
         room: usize,
         at: usize,
     ) -> Result<(), Stop>
-        requires { room < 128 }
+        requires room { room < 128 }
+        requires named { Named self.old }
         ensures ok { OnOk result (reading (default_hash_value (part_in nested room) at) self.old ≡ Ok (added self.old.steps self.new.steps, self.new.seen, self.new.rest)) }
         ensures adds { OnOk result (AddsOne self.old.steps self.new.steps) }
         ensures err { IfErr result (λ e. Fails (error_of e self.new.refused) (reading (default_hash_value (part_in nested room) at) self.old)) }
@@ -155,7 +161,8 @@ impl<'a> Reader<'a> {
         at: usize,
         is_struct: bool,
     ) -> Result<(), Stop>
-        requires { room < 128 }
+        requires room { room < 128 }
+        requires named { Named self.old }
         ensures ok { OnOk result (reading (fields_value (fields_form is_struct) (part_in nested room) at) self.old ≡ Ok (added self.old.steps self.new.steps, self.new.seen, self.new.rest)) }
         ensures adds { OnOk result (AddsOne self.old.steps self.new.steps) }
         ensures err { IfErr result (λ e. Fails (error_of e self.new.refused) (reading (fields_value (fields_form is_struct) (part_in nested room) at) self.old)) }
@@ -180,7 +187,8 @@ impl<'a> Reader<'a> {
         room: usize,
         at: usize,
     ) -> Result<(), Stop>
-        requires { room < 128 }
+        requires room { room < 128 }
+        requires named { Named self.old }
         ensures ok { OnOk result (reading (wrapped_value (part_in nested room) at) self.old ≡ Ok (added self.old.steps self.new.steps, self.new.seen, self.new.rest)) }
         ensures adds { OnOk result (AddsOne self.old.steps self.new.steps) }
         ensures err { IfErr result (λ e. Fails (error_of e self.new.refused) (reading (wrapped_value (part_in nested room) at) self.old)) }
@@ -202,7 +210,8 @@ impl<'a> Reader<'a> {
         room: usize,
         at: usize,
     ) -> Result<(), Stop>
-        requires { room < 128 }
+        requires room { room < 128 }
+        requires named { Named self.old }
         ensures ok { OnOk result (reading (marked_value (reference_in nested) (part_in nested room) at) self.old ≡ Ok (added self.old.steps self.new.steps, self.new.seen, self.new.rest)) }
         ensures adds { OnOk result (AddsOne self.old.steps self.new.steps) }
         ensures err { IfErr result (λ e. Fails (error_of e self.new.refused) (reading (marked_value (reference_in nested) (part_in nested room) at) self.old)) }
@@ -226,7 +235,8 @@ impl<'a> Reader<'a> {
         room: usize,
         at: usize,
     ) -> Result<(), Stop>
-        requires { room < 128 }
+        requires room { room < 128 }
+        requires named { Named self.old }
         ensures ok { OnOk result (reading (marked_dumped (reference_in nested) (part_in nested room) at) self.old ≡ Ok (added self.old.steps self.new.steps, self.new.seen, self.new.rest)) }
         ensures adds { OnOk result (AddsOne self.old.steps self.new.steps) }
         ensures err { IfErr result (λ e. Fails (error_of e self.new.refused) (reading (marked_dumped (reference_in nested) (part_in nested room) at) self.old)) }
@@ -242,6 +252,7 @@ impl<'a> Reader<'a> {
     /// After `u`: a class symbol, a length and bytes.
     #[cycle(read)]
     fn dumped_value(&mut self, alloc: Global, nested: bool, at: usize) -> Result<(), Stop>
+        requires { Named self.old }
         ensures ok { OnOk result (reading (dumped_value (reference_in nested) at) self.old ≡ Ok (added self.old.steps self.new.steps, self.new.seen, self.new.rest)) }
         ensures adds { OnOk result (AddsOne self.old.steps self.new.steps) }
         ensures err { IfErr result (λ e. Fails (error_of e self.new.refused) (reading (dumped_value (reference_in nested) at) self.old)) }
@@ -255,6 +266,7 @@ impl<'a> Reader<'a> {
     /// A class symbol, a length and bytes.
     #[cycle(read)]
     fn held(&mut self, alloc: Global, nested: bool, at: usize) -> Result<Held<'a>, Stop>
+        requires { Named self.old }
         ensures foreign { IfOk result (λ h. Foreign h) }
         ensures ok { IfOk result (λ h. reading (held (reference_in nested) at) self.old ≡ Ok (held_is h, self.new.seen, self.new.rest)) }
         ensures kept { OnOk result (self.new.steps ≡ self.old.steps) }
@@ -275,6 +287,7 @@ impl<'a> Reader<'a> {
     #[cycle(read)]
     #[tactic(auto, unfolding(marshal_grammar::specs::Dumps::dump_with))]
     pub fn dump_with(&mut self, alloc: Global, nested: bool) -> Result<(), Stop>
+        requires { Named self.old }
         ensures ok { OnOk result (reading (dump_with (reference_in nested)) self.old ≡ Ok (added self.old.steps self.new.steps, self.new.seen, self.new.rest)) }
         ensures adds { OnOk result (AddsOne self.old.steps self.new.steps) }
         ensures err { IfErr result (λ e. Fails (error_of e self.new.refused) (reading (dump_with (reference_in nested)) self.old)) }
@@ -285,6 +298,7 @@ impl<'a> Reader<'a> {
 
     /// A dump, with the error that a caller sees.
     pub fn dump(&mut self, alloc: Global) -> Result<(), ReadError>
+        requires { Named self.old }
         ensures ok { OnOk result (reading (dump_with (reference_in false)) self.old ≡ Ok (added self.old.steps self.new.steps, self.new.seen, self.new.rest)) }
         ensures adds { OnOk result (AddsOne self.old.steps self.new.steps) }
         ensures err { IfErr result (λ e. Fails e (reading (dump_with (reference_in false)) self.old)) }

@@ -3,6 +3,7 @@
 ghost use Rattle.std.specs.Prelude.{◌≡◌, ℕ, ◌+◌, ◌≤◌, ◌<◌, suc, [], ◌∷◌, ◌++◌, length, IfOk, IfErr, OnOk, Ok, Err};
 ghost use Rattle.marshal_grammar.specs.Values.{values, pairs, fields};
 ghost use Rattle.marshal_read.specs.Fails.{Fails, reading, error_of};
+ghost use Rattle.marshal_read.specs.State.{Named};
 ghost use Rattle.marshal_read.specs.Making.{values_in, pairs_in, fields_in, AddsValues, AddsPairs, AddsFields, key_in, name_in};
 ghost use Rattle.marshal_read.specs.Scopes.{part_in};
 
@@ -19,7 +20,8 @@ impl<'a> Reader<'a> {
     /// `n` values.
     #[cycle(read)]
     pub fn values(&mut self, alloc: Global, nested: bool, room: usize, n: u64) -> Result<(), Stop>
-        requires { room ≤ 128 }
+        requires room { room ≤ 128 }
+        requires named { Named self.old }
         ensures ok { OnOk result (reading (values (part_in nested room) n) self.old ≡ Ok (values_in self.old.steps self.new.steps, self.new.seen, self.new.rest)) }
         ensures adds { OnOk result (AddsValues self.old.steps self.new.steps n) }
         ensures err { IfErr result (λ e. Fails (error_of e self.new.refused) (reading (values (part_in nested room) n) self.old)) }
@@ -33,7 +35,8 @@ impl<'a> Reader<'a> {
     /// `n` pairs. No key is the same as an earlier one.
     #[cycle(read)]
     pub fn pairs(&mut self, alloc: Global, nested: bool, room: usize, n: u64) -> Result<(), Stop>
-        requires { room ≤ 128 }
+        requires room { room ≤ 128 }
+        requires named { Named self.old }
         ensures ok { OnOk result (reading (pairs (part_in nested room) [] n) self.old ≡ Ok (pairs_in self.old.steps self.new.steps, self.new.seen, self.new.rest)) }
         ensures adds { OnOk result (AddsPairs self.old.steps self.new.steps n) }
         ensures err { IfErr result (λ e. Fails (error_of e self.new.refused) (reading (pairs (part_in nested room) [] n) self.old)) }
@@ -57,7 +60,8 @@ impl<'a> Reader<'a> {
     /// `n` fields or variables, each a name and a value. No name stands twice.
     #[cycle(read)]
     pub fn fields(&mut self, alloc: Global, nested: bool, room: usize, n: u64) -> Result<(), Stop>
-        requires { room ≤ 128 }
+        requires room { room ≤ 128 }
+        requires named { Named self.old }
         ensures ok { OnOk result (reading (fields (part_in nested room) [] n) self.old ≡ Ok (fields_in self.old.steps self.new.steps, self.new.seen, self.new.rest)) }
         ensures adds { OnOk result (AddsFields self.old.steps self.new.steps n) }
         ensures err { IfErr result (λ e. Fails (error_of e self.new.refused) (reading (fields (part_in nested room) [] n) self.old)) }

@@ -1,12 +1,13 @@
 //! Values that end as their bytes do: they have no parts.
 
-ghost use Rattle.std.specs.Prelude.{◌≡◌, ℕ, ◌+◌, ◌≤◌, ◌<◌, [], ◌∷◌, ◌++◌, length, drop, IfOk, IfErr, OnOk, Ok, Err};
+ghost use Rattle.std.specs.Prelude.{◌≡◌, ℕ, ◌+◌, ◌≤◌, ◌<◌, [], ◌∷◌, ◌++◌, length, drop, IfOk, IfErr, OnOk, Ok, Err, IsUtf8};
 ghost use Rattle.drb_tree.specs.declared.Code.TheVariants.{Binary};
 ghost use Rattle.marshal_grammar.specs.Trees as tree;
 ghost use Rattle.marshal_grammar.specs.Values.{simple, whole, ends, small_int, big_int, symbol_value, plain_text, marked_text, named_value};
 ghost use Rattle.marshal_grammar.specs.Grammar.{gives};
 ghost use Rattle.marshal_grammar.specs.Symbols.{plain_symbol, linked_symbol, marked_symbol};
 ghost use Rattle.marshal_read.specs.Fails.{Fails, reading, error_of};
+ghost use Rattle.marshal_read.specs.State.{Named};
 ghost use Rattle.marshal_read.specs.Making.{Leaf, value_of, MakesOne, added, AddsOne};
 
 use crate::counts::heavy;
@@ -84,6 +85,7 @@ impl<'a> Reader<'a> {
     /// A symbol as a value: it counts by its bytes.
     #[inline(always)]
     fn symbol_entry(&mut self, at: usize, symbol: &'a [u8]) -> Result<(), Stop>
+        requires { IsUtf8 symbol.now }
         ensures ok { OnOk result (reading (symbol_value at (gives symbol.now)) self.old ≡ Ok (added self.old.steps self.new.steps, self.new.seen, self.new.rest)) }
         ensures adds { OnOk result (AddsOne self.old.steps self.new.steps) }
         ensures err { IfErr result (λ e. Fails (error_of e self.new.refused) (reading (symbol_value at (gives symbol.now)) self.old)) }
@@ -94,6 +96,7 @@ impl<'a> Reader<'a> {
 
     /// After `:` of a value.
     pub fn plain_symbol_value(&mut self, at: usize) -> Result<(), Stop>
+        requires { Named self.old }
         ensures ok { OnOk result (reading (symbol_value at (plain_symbol at)) self.old ≡ Ok (added self.old.steps self.new.steps, self.new.seen, self.new.rest)) }
         ensures adds { OnOk result (AddsOne self.old.steps self.new.steps) }
         ensures err { IfErr result (λ e. Fails (error_of e self.new.refused) (reading (symbol_value at (plain_symbol at)) self.old)) }
@@ -105,6 +108,7 @@ impl<'a> Reader<'a> {
     /// After `;` of a value.
     #[inline(always)]
     pub fn linked_symbol_value(&mut self, at: usize) -> Result<(), Stop>
+        requires { Named self.old }
         ensures ok { OnOk result (reading (symbol_value at (linked_symbol at)) self.old ≡ Ok (added self.old.steps self.new.steps, self.new.seen, self.new.rest)) }
         ensures adds { OnOk result (AddsOne self.old.steps self.new.steps) }
         ensures err { IfErr result (λ e. Fails (error_of e self.new.refused) (reading (symbol_value at (linked_symbol at)) self.old)) }
@@ -115,6 +119,7 @@ impl<'a> Reader<'a> {
 
     /// After `I:` of a value.
     pub fn marked_symbol_value(&mut self, alloc: Global, at: usize) -> Result<(), Stop>
+        requires { Named self.old }
         ensures ok { OnOk result (reading (symbol_value at (marked_symbol at)) self.old ≡ Ok (added self.old.steps self.new.steps, self.new.seen, self.new.rest)) }
         ensures adds { OnOk result (AddsOne self.old.steps self.new.steps) }
         ensures err { IfErr result (λ e. Fails (error_of e self.new.refused) (reading (symbol_value at (marked_symbol at)) self.old)) }

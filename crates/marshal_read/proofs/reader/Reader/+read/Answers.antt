@@ -1,4 +1,4 @@
-use Rattle.std.proofs.Common.{◌≡◌, ℕ, ◌∙◌, List, [], ◌∷◌, ◌++◌, drop, length, Bool, true, false, Option, None, Some, Ok, Err, IfErr, sym, ap, subst}
+use Rattle.std.proofs.Common.{◌≡◌, ℕ, ◌∙◌, List, [], ◌∷◌, ◌++◌, drop, length, Bool, true, false, rules, arith, Option, None, Some, Ok, Err, IfErr, sym, ap, subst}
 use Rattle.std.specs.Prelude.{OnOk}
 use Rattle.std.proofs.lemmas.Result.{err_from_is_err_and, IfOk-weaker}
 use Rattle.drb_tree.specs.declared.Remote.{Remote}
@@ -25,14 +25,71 @@ use Rattle.marshal_read.proofs.Holding.{held_ends}
 use Rattle.marshal_read.proofs.Closed.{close_makes, close_adds, close_adds_by, close_read, list_read, hash_read, default_hash_read, fields_read, wrapped_read, steps_of}
 use Rattle.marshal_read.proofs.Opened.{opened, closed, untyped, missing, given_ok, given_err}
 use Rattle.marshal_read.proofs.Loops.{values_begin, values_more, pairs_begin, pairs_more, pairs_double, pairs_failed_value, fields_more, fields_double, fields_failed_value}
+use Rattle.marshal_read.proofs.Leading.{byte_keeps, count_keeps, pair_count_keeps, count_nodes_keeps}
+use Rattle.marshal_read.proofs.Named.{part_tame, pairs_tame, held_tame, version_tame, class_utf8, opened_named, begun_named, read_leads, name_named}
 use Rattle.marshal_read.proofs.reader.Reader.+read.Goals as goal
 
 pub values-loop-init : goal.values-loop-init
-values-loop-init t c = values_begin (part_in c.args.nested c.args.room) c.args.n c.args.self.now
+values-loop-init t c = values_begin (part_in c.args.nested c.args.room) c.args.n c.args.self.now c.requires.named
 
 pub values-loop-preserved : goal.values-loop-preserved
 values-loop-preserved t c =
-    values_more (reading (values (part_in c.args.nested c.args.room) c.args.n) c.args.self.now) (part_in c.args.nested c.args.room) c.args.n c.loop.counter c.args.self.now.steps c.loop.self c.value.new.self c.loop-test.true c.loop.invariant c.in_ok-value.ensures.ok c.in_ok-value.ensures.adds
+    values_more (reading (values (part_in c.args.nested c.args.room) c.args.n) c.args.self.now) (part_in c.args.nested c.args.room) c.args.n c.loop.counter c.args.self.now.steps c.loop.self c.value.new.self (part_tame c.args.nested c.args.room) c.loop-test.true c.loop.invariant c.in_ok-value.ensures.ok c.in_ok-value.ensures.adds
+
+pub value-body-requires : goal.value-body-requires
+value-body-requires t c = (search rules, (omega arith, read_leads byte_keeps c.args.self.now c.byte.new.self _ c.in_ok-first.ensures.ok c.requires.named))
+
+pub pairs-value-requires-in-loop : goal.pairs-value-requires-in-loop
+pairs-value-requires-in-loop t c =
+    (search rules, (omega arith, read_leads (part_tame c.args.nested c.args.room) c.loop.self c.value.new.self _ c.in_ok-value.ensures.ok c.loop.invariant.named))
+
+pub fields-value-requires : goal.fields-value-requires
+fields-value-requires t c = (search rules, (omega arith, (read_leads name_named c.loop.self c.name.new.self _ c.in_ok-name.ensures.ok c.loop.invariant.named).0))
+
+pub list_value-values-requires : goal.list_value-values-requires
+list_value-values-requires t c =
+    (search rules, (omega arith, begun_named count_keeps c.args.at c.in_ok-n.n c.args.self.now c.count.new.self c.count_nodes.new.self c.begin_object.new.self c.in_ok-n.ensures.ok c.in_ok-count_nodes.ensures.ok c.in_ok-begun.ensures.state c.requires.named))
+
+pub hash_value-pairs-requires : goal.hash_value-pairs-requires
+hash_value-pairs-requires t c =
+    (search rules, (omega arith, begun_named pair_count_keeps c.args.at c.in_ok-n.n c.args.self.now c.pair_count.new.self c.count_nodes.new.self c.begin_object.new.self c.in_ok-n.ensures.ok c.in_ok-count_nodes.ensures.ok c.in_ok-begun.ensures.state c.requires.named))
+
+pub default_hash_value-pairs-requires : goal.default_hash_value-pairs-requires
+default_hash_value-pairs-requires t c =
+    (search rules, (omega arith, begun_named pair_count_keeps c.args.at c.in_ok-n.n c.args.self.now c.pair_count.new.self c.count_nodes.new.self c.begin_object.new.self c.in_ok-n.ensures.ok c.in_ok-count_nodes.ensures.ok c.in_ok-begun.ensures.state c.requires.named))
+
+pub default_hash_value-value-requires : goal.default_hash_value-value-requires
+default_hash_value-value-requires t c =
+    let n = begun_named pair_count_keeps c.args.at c.in_ok-n.n c.args.self.now c.pair_count.new.self c.count_nodes.new.self c.begin_object.new.self c.in_ok-n.ensures.ok c.in_ok-count_nodes.ensures.ok c.in_ok-begun.ensures.state c.requires.named in
+    (search rules, (omega arith, read_leads (pairs_tame (part_in c.args.nested c.args.room) [] c.in_ok-n.n (part_tame c.args.nested c.args.room)) c.begin_object.new.self c.pairs.new.self _ c.in_ok-pairs.ensures.ok n))
+
+pub fields_value-fields-requires : goal.fields_value-fields-requires
+fields_value-fields-requires t c =
+    let n = (read_leads name_named c.args.self.now c.name.new.self _ c.in_ok-name.ensures.ok c.requires.named).0 in
+    (search rules, (omega arith, begun_named pair_count_keeps c.args.at c.in_ok-n.n c.name.new.self c.pair_count.new.self c.count_nodes.new.self c.begin_object.new.self c.in_ok-n.ensures.ok c.in_ok-count_nodes.ensures.ok c.in_ok-begun.ensures.state n))
+
+pub wrapped_value-value-requires : goal.wrapped_value-value-requires
+wrapped_value-value-requires t c =
+    let n = (read_leads name_named c.args.self.now c.name.new.self _ c.in_ok-name.ensures.ok c.requires.named).0 in
+    (search rules, (omega arith, opened_named c.args.at c.name.new.self c.count_nodes.new.self c.begin_object.new.self c.in_ok-count_nodes.ensures.ok c.in_ok-begun.ensures.state n))
+
+pub marked_value-marked_symbol_value-requires : goal.marked_value-marked_symbol_value-requires
+marked_value-marked_symbol_value-requires t c = read_leads byte_keeps c.args.self.now c.byte.new.self _ c.in_ok-mark.ensures.ok c.requires.named
+
+pub marked_value-marked_dumped-requires : goal.marked_value-marked_dumped-requires
+marked_value-marked_dumped-requires t c = (search rules, (omega arith, read_leads byte_keeps c.args.self.now c.byte.new.self _ c.in_ok-mark.ensures.ok c.requires.named))
+
+pub marked_dumped-fields-requires : goal.marked_dumped-fields-requires
+marked_dumped-fields-requires t c =
+    let n = read_leads (held_tame (reference_in c.args.nested) c.args.at) c.args.self.now c.held.new.self _ c.in_ok-held.ensures.ok c.requires.named in
+    let m = read_leads pair_count_keeps c.held.new.self c.pair_count.new.self _ c.in_ok-variables.ensures.ok n in
+    (search rules, (omega arith, read_leads (count_nodes_keeps _ _) c.pair_count.new.self c.count_nodes.new.self _ c.in_ok-count_nodes.ensures.ok m))
+
+pub held-returns-then-ne-clause-foreign : goal.held-returns-then-ne-clause-foreign
+held-returns-then-ne-clause-foreign t c = (search rules, class_utf8 c.args.self.now c.name.new.self c.in_ok-class.class.now c.of.result c.in_ok-class.ensures.ok c.of.ensures c.requires)
+
+pub dump_with-value-requires : goal.dump_with-value-requires
+dump_with-value-requires t c = (search rules, (omega arith, read_leads version_tame c.args.self.now c.version.new.self tt c.in_ok-version.ensures.ok c.requires))
 
 pub value-returns-in_err-first-clause-err : goal.value-returns-in_err-first-clause-err
 value-returns-in_err-first-clause-err t c =
@@ -132,7 +189,7 @@ default_hash_value-returns-clause-adds t c =
 pub fields_value-end-requires-clause-makes : goal.fields_value-end-requires-clause-makes
 fields_value-end-requires-clause-makes t c =
     close_makes c.begin_object.new.self.steps c.fields.new.self.steps c.in_ok-begun.begun.start (S.Struct c.of-class.result c.in_ok-n.n) (structure c.of-class.result (fields_in c.begin_object.new.self.steps c.fields.new.self.steps)) (c.in_ok-begun.ensures.start ∙ ap length (steps_of c.count_nodes.new.self c.begin_object.new.self c.in_ok-begun.ensures.state))
-    (struct_ends (since c.begin_object.new.self.steps c.fields.new.self.steps) c.of-class.result c.in_ok-n.n c.in_ok-fields.ensures.adds.holds)
+    (struct_ends (since c.begin_object.new.self.steps c.fields.new.self.steps) c.of-class.result c.in_ok-n.n (class_utf8 c.args.self.now c.name.new.self c.in_ok-name.field-0.now c.of-class.result c.in_ok-name.ensures.ok c.of-class.ensures c.requires.named) c.in_ok-fields.ensures.adds.holds)
 
 pub fields_value-returns-then-is_struct-clause-ok : goal.fields_value-returns-then-is_struct-clause-ok
 fields_value-returns-then-is_struct-clause-ok t c =
@@ -144,19 +201,19 @@ fields_value-returns-then-is_struct-clause-ok t c =
     cls c.in_ok-n.ensures.ok c.in_ok-count_nodes.ensures.ok c.in_ok-begun.ensures.state c.in_ok-begun.ensures.number c.in_ok-fields.ensures.ok
     (close_read c.in_ok-begun.begun.number c.in_ok-begun.begun.start c.args.self.now c.begin_object.new.self c.fields.new.self c.end.new.self (S.Struct c.of-class.result c.in_ok-n.n) (structure c.of-class.result (fields_in c.begin_object.new.self.steps c.fields.new.self.steps))
     (sym (c.in_ok-count_nodes.ensures.kept ∙ c.in_ok-n.ensures.kept ∙ c.in_ok-name.ensures.kept) ∙ steps_of c.count_nodes.new.self c.begin_object.new.self c.in_ok-begun.ensures.state) (c.in_ok-begun.ensures.start ∙ ap length (steps_of c.count_nodes.new.self c.begin_object.new.self c.in_ok-begun.ensures.state)) c.in_ok-fields.ensures.adds.extends c.in_ok-end.ensures.steps
-    (struct_ends (since c.begin_object.new.self.steps c.fields.new.self.steps) c.of-class.result c.in_ok-n.n c.in_ok-fields.ensures.adds.holds) c.in_ok-end.ensures.ok) in
+    (struct_ends (since c.begin_object.new.self.steps c.fields.new.self.steps) c.of-class.result c.in_ok-n.n (class_utf8 c.args.self.now c.name.new.self c.in_ok-name.field-0.now c.of-class.result c.in_ok-name.ensures.ok c.of-class.ensures c.requires.named) c.in_ok-fields.ensures.adds.holds) c.in_ok-end.ensures.ok) in
     subst (λ (b : Bool). reading (V.fields_value (fields_form b) (part_in c.args.nested c.args.room) c.args.at) c.args.self.now ≡ r) (sym c.if-is_struct.true) whole
 
 pub fields_value-returns-then-is_struct-clause-adds : goal.fields_value-returns-then-is_struct-clause-adds
 fields_value-returns-then-is_struct-clause-adds t c =
     close_adds c.args.self.now.steps c.begin_object.new.self.steps c.fields.new.self.steps c.end.new.self.steps (S.Struct c.of-class.result c.in_ok-n.n) (structure c.of-class.result (fields_in c.begin_object.new.self.steps c.fields.new.self.steps))
     (sym (c.in_ok-count_nodes.ensures.kept ∙ c.in_ok-n.ensures.kept ∙ c.in_ok-name.ensures.kept) ∙ steps_of c.count_nodes.new.self c.begin_object.new.self c.in_ok-begun.ensures.state) c.in_ok-fields.ensures.adds.extends c.in_ok-end.ensures.steps
-    (struct_ends (since c.begin_object.new.self.steps c.fields.new.self.steps) c.of-class.result c.in_ok-n.n c.in_ok-fields.ensures.adds.holds)
+    (struct_ends (since c.begin_object.new.self.steps c.fields.new.self.steps) c.of-class.result c.in_ok-n.n (class_utf8 c.args.self.now c.name.new.self c.in_ok-name.field-0.now c.of-class.result c.in_ok-name.ensures.ok c.of-class.ensures c.requires.named) c.in_ok-fields.ensures.adds.holds)
 
 pub fields_value-end-requires-2-clause-makes : goal.fields_value-end-requires-2-clause-makes
 fields_value-end-requires-2-clause-makes t c =
     close_makes c.begin_object.new.self.steps c.fields.new.self.steps c.in_ok-begun.begun.start (S.Object c.of-class.result c.in_ok-n.n) (object c.of-class.result (fields_in c.begin_object.new.self.steps c.fields.new.self.steps)) (c.in_ok-begun.ensures.start ∙ ap length (steps_of c.count_nodes.new.self c.begin_object.new.self c.in_ok-begun.ensures.state))
-    (object_ends (since c.begin_object.new.self.steps c.fields.new.self.steps) c.of-class.result c.in_ok-n.n c.in_ok-fields.ensures.adds.holds)
+    (object_ends (since c.begin_object.new.self.steps c.fields.new.self.steps) c.of-class.result c.in_ok-n.n (class_utf8 c.args.self.now c.name.new.self c.in_ok-name.field-0.now c.of-class.result c.in_ok-name.ensures.ok c.of-class.ensures c.requires.named) c.in_ok-fields.ensures.adds.holds)
 
 pub fields_value-returns-clause-ok : goal.fields_value-returns-clause-ok
 fields_value-returns-clause-ok t c =
@@ -168,19 +225,19 @@ fields_value-returns-clause-ok t c =
     cls c.in_ok-n.ensures.ok c.in_ok-count_nodes.ensures.ok c.in_ok-begun.ensures.state c.in_ok-begun.ensures.number c.in_ok-fields.ensures.ok
     (close_read c.in_ok-begun.begun.number c.in_ok-begun.begun.start c.args.self.now c.begin_object.new.self c.fields.new.self c.end-2.new.self (S.Object c.of-class.result c.in_ok-n.n) (object c.of-class.result (fields_in c.begin_object.new.self.steps c.fields.new.self.steps))
     (sym (c.in_ok-count_nodes.ensures.kept ∙ c.in_ok-n.ensures.kept ∙ c.in_ok-name.ensures.kept) ∙ steps_of c.count_nodes.new.self c.begin_object.new.self c.in_ok-begun.ensures.state) (c.in_ok-begun.ensures.start ∙ ap length (steps_of c.count_nodes.new.self c.begin_object.new.self c.in_ok-begun.ensures.state)) c.in_ok-fields.ensures.adds.extends c.in_ok-end-2.ensures.steps
-    (object_ends (since c.begin_object.new.self.steps c.fields.new.self.steps) c.of-class.result c.in_ok-n.n c.in_ok-fields.ensures.adds.holds) c.in_ok-end-2.ensures.ok) in
+    (object_ends (since c.begin_object.new.self.steps c.fields.new.self.steps) c.of-class.result c.in_ok-n.n (class_utf8 c.args.self.now c.name.new.self c.in_ok-name.field-0.now c.of-class.result c.in_ok-name.ensures.ok c.of-class.ensures c.requires.named) c.in_ok-fields.ensures.adds.holds) c.in_ok-end-2.ensures.ok) in
     subst (λ (b : Bool). reading (V.fields_value (fields_form b) (part_in c.args.nested c.args.room) c.args.at) c.args.self.now ≡ r) (sym c.if-is_struct.false) whole
 
 pub fields_value-returns-clause-adds : goal.fields_value-returns-clause-adds
 fields_value-returns-clause-adds t c =
     close_adds c.args.self.now.steps c.begin_object.new.self.steps c.fields.new.self.steps c.end-2.new.self.steps (S.Object c.of-class.result c.in_ok-n.n) (object c.of-class.result (fields_in c.begin_object.new.self.steps c.fields.new.self.steps))
     (sym (c.in_ok-count_nodes.ensures.kept ∙ c.in_ok-n.ensures.kept ∙ c.in_ok-name.ensures.kept) ∙ steps_of c.count_nodes.new.self c.begin_object.new.self c.in_ok-begun.ensures.state) c.in_ok-fields.ensures.adds.extends c.in_ok-end-2.ensures.steps
-    (object_ends (since c.begin_object.new.self.steps c.fields.new.self.steps) c.of-class.result c.in_ok-n.n c.in_ok-fields.ensures.adds.holds)
+    (object_ends (since c.begin_object.new.self.steps c.fields.new.self.steps) c.of-class.result c.in_ok-n.n (class_utf8 c.args.self.now c.name.new.self c.in_ok-name.field-0.now c.of-class.result c.in_ok-name.ensures.ok c.of-class.ensures c.requires.named) c.in_ok-fields.ensures.adds.holds)
 
 pub wrapped_value-end-requires-clause-makes : goal.wrapped_value-end-requires-clause-makes
 wrapped_value-end-requires-clause-makes t c =
     close_makes c.begin_object.new.self.steps c.value.new.self.steps c.in_ok-begun.begun.start (S.Wrapped c.of-class.result) (wrapped c.of-class.result (added c.begin_object.new.self.steps c.value.new.self.steps)) (c.in_ok-begun.ensures.start ∙ ap length (steps_of c.count_nodes.new.self c.begin_object.new.self c.in_ok-begun.ensures.state))
-    (wrapped_ends (since c.begin_object.new.self.steps c.value.new.self.steps) c.of-class.result c.in_ok-value.ensures.adds.makes)
+    (wrapped_ends (since c.begin_object.new.self.steps c.value.new.self.steps) c.of-class.result (class_utf8 c.args.self.now c.name.new.self c.in_ok-name.field-0.now c.of-class.result c.in_ok-name.ensures.ok c.of-class.ensures c.requires.named) c.in_ok-value.ensures.adds.makes)
 
 pub wrapped_value-returns-clause-ok : goal.wrapped_value-returns-clause-ok
 wrapped_value-returns-clause-ok t c =
@@ -190,13 +247,13 @@ wrapped_value-returns-clause-ok t c =
     cls c.in_ok-count_nodes.ensures.ok c.in_ok-begun.ensures.state c.in_ok-begun.ensures.number c.in_ok-value.ensures.ok
     (close_read c.in_ok-begun.begun.number c.in_ok-begun.begun.start c.args.self.now c.begin_object.new.self c.value.new.self c.end.new.self (S.Wrapped c.of-class.result) (wrapped c.of-class.result (added c.begin_object.new.self.steps c.value.new.self.steps))
     (sym (c.in_ok-count_nodes.ensures.kept ∙ c.in_ok-name.ensures.kept) ∙ steps_of c.count_nodes.new.self c.begin_object.new.self c.in_ok-begun.ensures.state) (c.in_ok-begun.ensures.start ∙ ap length (steps_of c.count_nodes.new.self c.begin_object.new.self c.in_ok-begun.ensures.state)) c.in_ok-value.ensures.adds.extends c.in_ok-end.ensures.steps
-    (wrapped_ends (since c.begin_object.new.self.steps c.value.new.self.steps) c.of-class.result c.in_ok-value.ensures.adds.makes) c.in_ok-end.ensures.ok)
+    (wrapped_ends (since c.begin_object.new.self.steps c.value.new.self.steps) c.of-class.result (class_utf8 c.args.self.now c.name.new.self c.in_ok-name.field-0.now c.of-class.result c.in_ok-name.ensures.ok c.of-class.ensures c.requires.named) c.in_ok-value.ensures.adds.makes) c.in_ok-end.ensures.ok)
 
 pub wrapped_value-returns-clause-adds : goal.wrapped_value-returns-clause-adds
 wrapped_value-returns-clause-adds t c =
     close_adds c.args.self.now.steps c.begin_object.new.self.steps c.value.new.self.steps c.end.new.self.steps (S.Wrapped c.of-class.result) (wrapped c.of-class.result (added c.begin_object.new.self.steps c.value.new.self.steps))
     (sym (c.in_ok-count_nodes.ensures.kept ∙ c.in_ok-name.ensures.kept) ∙ steps_of c.count_nodes.new.self c.begin_object.new.self c.in_ok-begun.ensures.state) c.in_ok-value.ensures.adds.extends c.in_ok-end.ensures.steps
-    (wrapped_ends (since c.begin_object.new.self.steps c.value.new.self.steps) c.of-class.result c.in_ok-value.ensures.adds.makes)
+    (wrapped_ends (since c.begin_object.new.self.steps c.value.new.self.steps) c.of-class.result (class_utf8 c.args.self.now c.name.new.self c.in_ok-name.field-0.now c.of-class.result c.in_ok-name.ensures.ok c.of-class.ensures c.requires.named) c.in_ok-value.ensures.adds.makes)
 
 pub marked_dumped-returns-clause-adds : goal.marked_dumped-returns-clause-adds
 marked_dumped-returns-clause-adds t c =
@@ -206,13 +263,13 @@ marked_dumped-returns-clause-adds t c =
     (held_ends c.in_ok-held.held (since c.count_nodes.new.self.steps c.fields.new.self.steps) c.in_ok-variables.variables c.in_ok-held.ensures.foreign c.in_ok-fields.ensures.adds.holds)
 
 pub pairs-loop-init : goal.pairs-loop-init
-pairs-loop-init t c = pairs_begin (part_in c.args.nested c.args.room) c.args.n c.new-keys.result c.args.self.now c.new-keys.ensures
+pairs-loop-init t c = pairs_begin (part_in c.args.nested c.args.room) c.args.n c.new-keys.result c.args.self.now c.new-keys.ensures c.requires.named
 
 pub pairs-loop-preserved : goal.pairs-loop-preserved
 pairs-loop-preserved t c =
     let d : false ≡ key_in c.in_ok-key.key c.loop.keys = sym c.if-has_key.false ∙ c.has_key.ensures ∙ ap (key_in c.in_ok-key.key) c.as_slice.ensures in
     rw c.in_ok-push.ensures.ok
-    (pairs_more (reading (pairs (part_in c.args.nested c.args.room) [] c.args.n) c.args.self.now) (part_in c.args.nested c.args.room) c.args.n c.loop.counter c.loop.keys c.args.self.now.steps c.loop.self c.value.new.self c.value-in-loop.new.self c.push-in-loop.new.self c.in_ok-key.key c.loop-test.true c.loop.invariant
+    (pairs_more (reading (pairs (part_in c.args.nested c.args.room) [] c.args.n) c.args.self.now) (part_in c.args.nested c.args.room) c.args.n c.loop.counter c.loop.keys c.args.self.now.steps c.loop.self c.value.new.self c.value-in-loop.new.self c.push-in-loop.new.self c.in_ok-key.key (part_tame c.args.nested c.args.room) c.loop-test.true c.loop.invariant
     c.in_ok-value.ensures.ok c.in_ok-value.ensures.adds (c.in_ok-key.ensures ∙ ap (λ (i : ℕ). value_of (drop i c.value.new.self.steps)) c.count_steps-start.ensures) d c.in_ok-value-2.ensures.ok c.in_ok-value-2.ensures.adds c.in_ok-push-2.ensures)
 
 pub pairs-returns-then-has_key-clause-err : goal.pairs-returns-then-has_key-clause-err
@@ -232,7 +289,7 @@ pub fields-loop-preserved : goal.fields-loop-preserved
 fields-loop-preserved t c =
     let d : false ≡ name_in c.in_ok-name.name.now c.loop.names = sym c.if-has_name.false ∙ c.has_name.ensures ∙ ap (name_in c.in_ok-name.name.now) c.as_slice.ensures in
     rw (c.in_ok-push.ensures.ok, c.of.ensures)
-    (fields_more (reading (fields (part_in c.args.nested c.args.room) [] c.args.n) c.args.self.now) (part_in c.args.nested c.args.room) c.args.n c.loop.counter c.loop.names c.args.self.now.steps c.loop.self c.name.new.self c.value.new.self c.push-in-loop.new.self c.in_ok-name.name.now c.loop-test.true c.loop.invariant
+    (fields_more (reading (fields (part_in c.args.nested c.args.room) [] c.args.n) c.args.self.now) (part_in c.args.nested c.args.room) c.args.n c.loop.counter c.loop.names c.args.self.now.steps c.loop.self c.name.new.self c.value.new.self c.push-in-loop.new.self c.in_ok-name.name.now (part_tame c.args.nested c.args.room) c.loop-test.true c.loop.invariant
     c.in_ok-name.ensures.ok c.in_ok-name.ensures.kept d c.in_ok-value.ensures.ok c.in_ok-value.ensures.adds (c.in_ok-push-2.ensures ∙ ap (λ (z : List ℕ). record c.value.new.self { steps = c.value.new.self.steps ++ (S.Field z ∷ []) }) c.of-in-loop.ensures))
 
 pub fields-returns-then-has_name-clause-err : goal.fields-returns-then-has_name-clause-err
