@@ -15,7 +15,7 @@ ghost use Rattle.drb_value.specs.View.{view_of};
 ghost use Rattle.drb_server.specs.Marked.{seen, Stops, Misses};
 
 use crate::marks::Marks;
-use drb_value::{Name, NameError, Node, Value};
+use drb_value::{Bytes, Name, NameError, Node, Value};
 use marshal_grammar::kind::{Kind, kind_of};
 use marshal_grammar::long::long_at;
 use sqlite_items::Items;
@@ -177,7 +177,7 @@ impl Marks {
         }
         match self.symbols.get(number as usize) {
             Some(name) => Ok(Name {
-                bytes: Items::from_slice(alloc, name.bytes.as_slice())?,
+                bytes: Bytes::of(alloc, name.bytes.as_slice())?,
             }),
             None => Err(Stop::Other),
         }

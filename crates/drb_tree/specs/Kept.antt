@@ -1,6 +1,5 @@
 -- What every value keeps, and which values can be sent: docs/MARSHAL.md, Values.
 use Rattle.std.specs.Prelude.{ℕ, ◌≡◌, ◌≤◌, ◌<◌, ◌^◌, ℤ, pos, ◌-ℤ◌, ◌≤ℤ◌, ◌<ℤ◌, Bool, true, false, not, ◌&&◌, ◌||◌, IsTrue, List, [], ◌∷◌, ◌++◌, length, All, IsUtf8, bytes_eq, codes}
-use Rattle.drb_tree.specs.declared.Text.{Text}
 use Rattle.drb_tree.specs.declared.RefId.{RefId}
 use Rattle.drb_tree.specs.declared.RefId.TheVariants as R
 use Rattle.drb_tree.specs.declared.Remote.{Remote}

@@ -1,8 +1,7 @@
 ghost use Rattle.std.specs.Prelude.{◌≡◌, IfOk};
 ghost use Rattle.drb_tree.specs.Same.{all_ascii, same_code, same_text};
 
-use crate::{Code, Text};
-use sqlite_items::Items;
+use crate::{Bytes, Code, Text};
 use std::alloc::{AllocError, Global};
 
 impl Text {
@@ -13,7 +12,7 @@ impl Text {
     pub fn of(alloc: Global, bytes: &[u8], code: Code) -> Result<Text, AllocError>
         ensures { IfOk result (λ text. text ≡ record { bytes = bytes.now; code = code }) }
     {
-        let bytes = Items::from_slice(alloc, bytes)?;
+        let bytes = Bytes::of(alloc, bytes)?;
         Ok(Text { bytes, code })
     }
 

@@ -21,7 +21,7 @@ mod sizes;
 mod tests;
 
 pub use copies::copy_items;
-pub use drb_tree::{Code, RefId, Remote, Text};
+pub use drb_tree::{Bytes, Code, RefId, Remote, Text};
 pub use equality::same;
 pub use hashes::PairError;
 pub use names::NameError;
@@ -33,7 +33,7 @@ use std::marker::Model;
 /// Source: docs/MARSHAL.md, Values.
 #[derive(Debug, Drop)]
 pub struct Name {
-    pub bytes: Items<u8>,
+    pub bytes: Bytes,
 }
 
 impl Model for Name {

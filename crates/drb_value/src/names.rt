@@ -1,7 +1,7 @@
 ghost use Rattle.std.specs.Prelude.{◌≡◌, ◌↔◌, IfOk, IsTrue, IsUtf8, Err};
 ghost use Rattle.drb_tree.specs.Kept.{remote_class};
 
-use crate::{Items, Name};
+use crate::{Bytes, Name};
 use std::alloc::{AllocError, Global};
 use thiserror::Error;
 
@@ -39,7 +39,7 @@ impl Name {
         if std::str::from_utf8(bytes).is_err() {
             return Err(NameError::NotUtf8);
         }
-        let bytes = Items::from_slice(alloc, bytes)?;
+        let bytes = Bytes::of(alloc, bytes)?;
         Ok(Name { bytes })
     }
 
@@ -57,7 +57,7 @@ impl Name {
     pub fn copy(&self, alloc: Global) -> Result<Name, AllocError>
         ensures { IfOk result (λ name. name ≡ self.now) }
     {
-        let bytes = Items::from_slice(alloc, self.bytes.as_slice())?;
+        let bytes = Bytes::of(alloc, self.bytes.as_slice())?;
         Ok(Name { bytes })
     }
 

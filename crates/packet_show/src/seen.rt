@@ -9,7 +9,7 @@ use drb_outside::MemSource;
 use drb_packet::{
     Inbound, Limits, PacketError, PacketRefusal, Reply, Request, fill, read_reply, read_request,
 };
-use drb_value::Items;
+use drb_value::Bytes;
 use std::alloc::Global;
 
 /// How much is read of a packet, and how many arguments.
@@ -29,7 +29,7 @@ pub enum Kind {
 #[derive(Drop)]
 pub struct Call {
     /// The bytes of the method's name.
-    pub name: Items<u8>,
+    pub name: Bytes,
     /// How many arguments there are.
     pub arguments: usize,
     /// Whether there is a block.

@@ -4,12 +4,11 @@ ghost use Rattle.std.specs.Prelude.{◌≡◌, IfOk};
 ghost use Rattle.rinda_rules.specs.Space.{fits as fits_spec, hears as hears_spec, is_over as is_over_spec, renewer_of as renewer_of_spec, is_doubted as is_doubted_spec, is_free as is_free_spec, is_live as is_live_spec, is_due_tuple as is_due_tuple_spec, is_reserved as is_reserved_spec, is_parked as is_parked_spec, is_read as is_read_spec, is_waiting as is_waiting_spec, is_due_request as is_due_request_spec, may_have as may_have_spec, is_running as is_running_spec, is_due_notifier as is_due_notifier_spec, text_of as text_of_spec};
 ghost use Rattle.rinda_rules.specs.Phases.{expires as expires_spec};
 
-use drb_tree::{Code, Remote, Text};
+use drb_tree::{Bytes, Code, Remote, Text};
 use drb_value::{Node, Value};
 use rinda_rules::plain::{Entry, Happening, Hearing, Notifier, Raised, Request};
 use rinda_rules::{Doubt, Kind, RequestState};
 use rinda_tuple::{Template, Tuple, is_match, suits};
-use sqlite_items::Items;
 use std::alloc::{AllocError, Global};
 
 pub fn fits(pattern: &Template, tuple: &Tuple) -> bool
@@ -126,9 +125,9 @@ pub fn text_of(alloc: Global, what: Happening) -> Result<Value, AllocError>
     ensures { IfOk result (λ v. v ≡ text_of_spec what) }
 {
     let bytes = match what {
-        Happening::Write => Items::from_slice(alloc, b"write")?,
-        Happening::Take => Items::from_slice(alloc, b"take")?,
-        Happening::Delete => Items::from_slice(alloc, b"delete")?,
+        Happening::Write => Bytes::of(alloc, b"write")?,
+        Happening::Take => Bytes::of(alloc, b"take")?,
+        Happening::Delete => Bytes::of(alloc, b"delete")?,
     };
     Ok(Value {
         node: Node::Text(Text {
