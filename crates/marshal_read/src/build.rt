@@ -7,7 +7,7 @@ ghost use Rattle.marshal_read.specs.Making.{Made, nothing, front, back, last, pu
 
 use crate::span::Span;
 use crate::steps::{Raw, Step};
-use drb_value::{Code, Dumped, FieldList, Items, Name, Pairs, Remote, Text, Value};
+use drb_value::{Bytes, Code, Dumped, FieldList, Items, Name, Pairs, Remote, Text, Value};
 use std::alloc::{AllocError, Global};
 use std::marker::Model;
 
@@ -58,7 +58,7 @@ fn name_of(alloc: Global, bytes: &Span) -> Result<Name, AllocError>
     requires { IsUtf8 bytes.now }
     ensures { IfOk result (λ n. n ≡ bytes.now) }
 {
-    let bytes = Items::from_slice(alloc, bytes.as_slice())?;
+    let bytes = Bytes::of(alloc, bytes.as_slice())?;
     Ok(Name { bytes })
 }
 
