@@ -1,4 +1,4 @@
-use Rattle.std.proofs.Common.{◌≡◌, [], ◌∷◌, ◌++◌, ℕ, List, ap, ◌∙◌, slice_set}
+use Rattle.std.proofs.Common.{[], ◌∷◌, ◌++◌, ℕ, List, ap, ◌∙◌, slice_set}
 use Rattle.marshal_read.specs.declared.steps.Step.{Step}
 use Rattle.marshal_read.specs.declared.steps.Step.TheVariants as S
 use Rattle.marshal_read.proofs.Changes.{replaced}
