@@ -1,5 +1,5 @@
 -- Arrays, and what holds one, by their nodes.
-use Rattle.std.proofs.Common.{◌≡◌, ℕ, List, ◌∷◌, [], Option, Some, None, Result, Ok, Err, MatchOption, MatchResult, Bor, IsTrue, ◌↔◌, true, false, Bool, refl, sym, ap, ◌∙◌, subst}
+use Rattle.std.proofs.Common.{◌≡◌, ℕ, List, ◌∷◌, [], Option, Some, None, Result, Ok, Err, IfOk, MatchOption, MatchResult, Bor, IsTrue, ◌↔◌, true, false, Bool, refl, sym, ap, ◌∙◌, subst}
 use Rattle.drb_tree.specs.declared.Tree.{Tree}
 use Rattle.drb_tree.specs.declared.Tree.TheOpen as T
 use Rattle.drb_tree.specs.declared.Tree.TheViews.{out-Tree, roll-Tree, out-roll-Tree}
@@ -64,8 +64,9 @@ pub same_refusal : (v w : Why) (a b : ℕ) → w ≡ v → b ≡ a → Refused (
 same_refusal v w a b p q = rw (p, q)
 
 -- what is made of the class, the bytes and no variables
-pub holding_is : (w : Tree) (d : List ℕ × List ℕ × List (List ℕ × Tree)) (class bytes want : List ℕ) (vars : List (List ℕ × Tree)) → w ≡ dumped_tree d.0 d.1 d.2 → d ≡ (class, bytes, vars) → class ≡ array_class → bytes ≡ want → vars ≡ [] → w ≡ dumped_tree array_class want []
-holding_is w d class bytes want vars e f g h i =
+pub holding_is : {E : Type 0} (r : Result Tree E) (d : List ℕ × List ℕ × List (List ℕ × Tree)) (class bytes want : List ℕ) (vars : List (List ℕ × Tree)) → IfOk r (λ w. w ≡ dumped_tree d.0 d.1 d.2) → d ≡ (class, bytes, vars) → class ≡ array_class → bytes ≡ want → vars ≡ [] → IfOk r (λ w. w ≡ dumped_tree array_class want [])
+holding_is (Err x) d class bytes want vars e f g h i = tt
+holding_is (Ok w) d class bytes want vars e f g h i =
     e ∙ ap (λ (x : List ℕ × List ℕ × List (List ℕ × Tree)). dumped_tree x.0 x.1 x.2) f
     ∙ ap (λ (x : List ℕ). dumped_tree x bytes vars) g ∙ ap (λ (x : List ℕ). dumped_tree array_class x vars) h
     ∙ ap (λ (x : List (List ℕ × Tree)). dumped_tree array_class want x) i
