@@ -1,4 +1,4 @@
-ghost use Rattle.std.specs.Prelude.{◌≡◌, IfOk, length};
+ghost use Rattle.std.specs.Prelude.{◌≡◌, ◌≤◌, IfOk, IsOk, length};
 
 use smallvec::SmallVec;
 use std::alloc::{AllocError, Global};
@@ -25,7 +25,8 @@ impl Bytes {
     ///
     /// Errors: only want of memory, and never where there are at most 16 bytes.
     pub fn of(alloc: Global, bytes: &[u8]) -> Result<Bytes, AllocError>
-        ensures { IfOk result (λ b. b ≡ bytes.now) }
+        ensures bytes { IfOk result (λ b. b ≡ bytes.now) }
+        ensures short { length bytes.now ≤ 16 → IsOk result }
     {
         let bytes = SmallVec::from_slice(alloc, bytes)?;
         Ok(Bytes { bytes })
