@@ -1,6 +1,6 @@
 -- A fact of a value and of all of its parts: from the value's own and those of its parts, and back.
 use Rattle.std.proofs.Common.{◌≡◌, ℕ, List, [], ◌∷◌, All, map, Option, Some, None, refl, ◌∙◌, ap, subst}
-use Rattle.std.proofs.lemmas.List.Elements.{All-from_recursion, All-head, All-tail}
+use Rattle.std.proofs.lemmas.List.Elements.{All-from_recursion, All-nil, All-cons, All-head, All-tail, All-weaker}
 use Rattle.std.specs.List.{AllByRecursion as ByRecursion}
 use Rattle.drb_tree.specs.declared.Tree.{Tree}
 use Rattle.drb_tree.specs.declared.Tree.TheViews.{roll-Tree, out-roll-Tree}
@@ -102,3 +102,38 @@ every_roll Q (Tree-F.Struct c fs) q h = let r = fields_with Q fs h in every_made
 every_roll Q (Tree-F.Dumped c bs fs) q h = let r = fields_with Q fs h in every_made-Tree Q (Tree-F.Dumped c bs fs) (Tree-F.Dumped c bs r.0) (ap (λ us. Tree-F.Dumped c bs us) r.1) q
 every_roll Q (Tree-F.Wrapped c t) q h = every_made-Tree Q (Tree-F.Wrapped c t) (Tree-F.Wrapped c (t, h)) refl q
 every_roll Q (Tree-F.Remote r) q h = every_made-Tree Q (Tree-F.Remote r) (Tree-F.Remote r) refl q
+
+pairs_weaker : (P Q : Tree → Type 0) → ((t : Tree) → P t → Q t) → (d : Option Tree) → IfThere P d → IfThere Q d
+pairs_weaker P Q f None h = tt
+pairs_weaker P Q f (Some d) h = f d h
+
+-- a fact of each part that follows from another one
+pub parts_weaker : (P Q : Tree → Type 0) → ((t : Tree) → P t → Q t) → (l : Tree-F Tree) → Parts P l → Parts Q l
+parts_weaker P Q f (Tree-F.List ts) h = All-weaker P Q f ts h
+parts_weaker P Q f (Tree-F.Hash ps d) h = (All-weaker (BothHave P) (BothHave Q) (λ p e. (f p.0 e.0, f p.1 e.1)) ps h.0, pairs_weaker P Q f d h.1)
+parts_weaker P Q f (Tree-F.Object c fs) h = All-weaker (FieldHas P) (FieldHas Q) (λ p e. f p.1 e) fs h
+parts_weaker P Q f (Tree-F.Struct c fs) h = All-weaker (FieldHas P) (FieldHas Q) (λ p e. f p.1 e) fs h
+parts_weaker P Q f (Tree-F.Dumped c bs fs) h = All-weaker (FieldHas P) (FieldHas Q) (λ p e. f p.1 e) fs h
+parts_weaker P Q f (Tree-F.Wrapped c t) h = f t h
+parts_weaker P Q f _ h = tt
+
+all_both : {X : Type 0} (P Q : X → Type 0) (xs : List X) → All P xs → All Q xs → All (λ x. P x × Q x) xs
+all_both P Q [] h k = All-nil (λ x. P x × Q x)
+all_both P Q (x ∷ xs) h k = All-cons (λ y. P y × Q y) x xs (All-head P x xs h, All-head Q x xs k) (all_both P Q xs (All-tail P x xs h) (All-tail Q x xs k))
+
+default_both : (P Q : Tree → Type 0) (d : Option Tree) → IfThere P d → IfThere Q d → IfThere (λ t. P t × Q t) d
+default_both P Q None h k = tt
+default_both P Q (Some d) h k = (h, k)
+
+-- two facts of each part as one
+pub parts_both : (P Q : Tree → Type 0) (l : Tree-F Tree) → Parts P l → Parts Q l → Parts (λ t. P t × Q t) l
+parts_both P Q (Tree-F.List ts) h k = all_both P Q ts h k
+parts_both P Q (Tree-F.Hash ps d) h k = (
+  All-weaker (λ p. BothHave P p × BothHave Q p) (BothHave (λ t. P t × Q t)) (λ p e. ((e.0.0, e.1.0), (e.0.1, e.1.1))) ps (all_both (BothHave P) (BothHave Q) ps h.0 k.0),
+  default_both P Q d h.1 k.1,
+)
+parts_both P Q (Tree-F.Object c fs) h k = all_both (FieldHas P) (FieldHas Q) fs h k
+parts_both P Q (Tree-F.Struct c fs) h k = all_both (FieldHas P) (FieldHas Q) fs h k
+parts_both P Q (Tree-F.Dumped c bs fs) h k = all_both (FieldHas P) (FieldHas Q) fs h k
+parts_both P Q (Tree-F.Wrapped c t) h k = (h, k)
+parts_both P Q _ h k = tt

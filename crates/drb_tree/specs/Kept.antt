@@ -18,7 +18,8 @@ has_key k (p ∷ ps) = same p.0 k || has_key k ps
 -- no key is the same as an earlier one, or as one of those before
 abbrev pub keys_distinct_after : List (Tree × Tree) → List (Tree × Tree) → Bool
 keys_distinct_after before [] = true
-keys_distinct_after before (p ∷ ps) = not (has_key p.0 before) && keys_distinct_after (before ++ (p ∷ [])) ps
+keys_distinct_after before (p ∷ ps) =
+    not (has_key p.0 before) && keys_distinct_after (before ++ (p ∷ [])) ps
 
 -- no key is the same as an earlier one
 abbrev pub keys_distinct : List (Tree × Tree) → Bool
@@ -82,7 +83,8 @@ id_tree (R.Text t) = text_tree t
 abbrev pub remote_list : Remote → Tree
 remote_list r = list_tree (text_tree r.uri ∷ id_tree r.id ∷ [])
 
--- what one value has to be for a dump, not looking into its parts; the list of a remote object has no part with pairs or a name
+-- what one value has to be for a dump, not looking into its parts;
+-- the list of a remote object has no part with pairs or a name
 abbrev pub Small : Tree-F Tree → Type 0
 Small (Tree-F.Hash ps d) = length ps ≤ max_pairs
 Small (Tree-F.Class n) = IsTrue (all_ascii n)

@@ -45,7 +45,8 @@ same_id _ _ = false
 abbrev pub same_remote : Remote → Remote → Bool
 same_remote r s = same_text r.uri s.uri && same_id r.id s.id
 
--- Of two values, the parts of the first are given below as tests: a part's test says which values are the same as it.
+-- Of two values, the parts of the first are given below as tests:
+-- a part's test says which values are the same as it.
 
 -- lists: item by item
 abbrev pub all_same : List (Tree → Bool) → List Tree → Bool
@@ -98,7 +99,8 @@ same_at (Tree-F.Class n) (Tree-F.Class m) = bytes_eq n m
 same_at (Tree-F.Module n) (Tree-F.Module m) = bytes_eq n m
 same_at (Tree-F.Object c fs) (Tree-F.Object d ps) = bytes_eq c d && same_fields fs ps
 same_at (Tree-F.Struct c fs) (Tree-F.Struct d ps) = bytes_eq c d && same_fields fs ps
-same_at (Tree-F.Dumped c bs fs) (Tree-F.Dumped d es ps) = (bytes_eq c d && bytes_eq bs es) && same_vars fs ps
+same_at (Tree-F.Dumped c bs fs) (Tree-F.Dumped d es ps) =
+    (bytes_eq c d && bytes_eq bs es) && same_vars fs ps
 same_at (Tree-F.Wrapped c f) (Tree-F.Wrapped d t) = bytes_eq c d && f t
 same_at (Tree-F.Remote r) (Tree-F.Remote s) = same_remote r s
 same_at _ _ = false

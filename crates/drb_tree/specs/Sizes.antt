@@ -43,7 +43,8 @@ depth = fold-Tree ℕ depth_step
 
 -- the depth of the deepest part of a hash, its default included
 abbrev pub pairs_depth : List (Tree × Tree) × Option Tree → ℕ
-pairs_depth p = max (most_pairs (map (λ q. (depth q.0, depth q.1)) p.0)) (some_or_0 (option_map depth p.1))
+pairs_depth p =
+    max (most_pairs (map (λ q. (depth q.0, depth q.1)) p.0)) (some_or_0 (option_map depth p.1))
 
 -- the depth of the deepest field
 abbrev pub fields_depth : List (List ℕ × Tree) → ℕ
@@ -74,11 +75,13 @@ id_bytes R.Front = []
 id_bytes (R.Number i) = []
 id_bytes (R.Text t) = t.bytes
 
--- what a remote object counts: 1 for its class symbol, 1 for itself, and 1 more for every 256 bytes of its uri and text id together
+-- what a remote object counts: 1 for its class symbol, 1 for itself,
+-- and 1 more for every 256 bytes of its uri and text id together
 abbrev pub remote_nodes : Remote → ℕ
 remote_nodes r = 1 + (1 + (length r.uri.bytes + length (id_bytes r.id)) / 256)
 
--- what a value counts, from what its parts count; a class symbol and a name count as a value with these bytes does
+-- what a value counts, from what its parts count;
+-- a class symbol and a name count as a value with these bytes does
 abbrev pub nodes_step : Tree-F ℕ → ℕ
 nodes_step Tree-F.Nil = 1
 nodes_step (Tree-F.Bool b) = 1

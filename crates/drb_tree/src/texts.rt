@@ -47,7 +47,10 @@ fn same_code(a: Code, b: Code) -> bool
     }
 }
 
-/// Whether every byte is below 128.
+/// Whether every byte is below 128: the test for what a caller must know to be ASCII, as an exception's class or the name
+/// of a method.
+///
+/// Source: docs/MARSHAL.md, Symbols.
 pub fn all_ascii(bytes: &[u8]) -> bool
     ensures { result ≡ all_ascii bytes.now }
 {

@@ -1,3 +1,4 @@
 pub mod Distinct
 pub mod Measures
 pub mod Nodes
+pub mod Told

@@ -100,7 +100,8 @@ fn same_items(xs: &[Value], ys: &[Value]) -> bool
 
 #[cycle(same)]
 fn same_pairs(xs: &Pairs, ys: &Pairs) -> bool
-    ensures { result ≡ ((length xs.now.0 == length ys.now.0) && each_pair (map (λ p. (same p.0, same p.1)) xs.now.0) ys.now.0) }
+    ensures { result ≡ ((length xs.now.0 == length ys.now.0)
+        && each_pair (map (λ p. (same p.0, same p.1)) xs.now.0) ys.now.0) }
 {
     xs.pairs.len() == ys.pairs.len() && each_pair(xs.pairs.as_slice(), ys.pairs.as_slice())
 }
@@ -131,7 +132,8 @@ fn some_pair(key: &Value, value: &Value, ys: &[(Value, Value)]) -> bool
 
 #[cycle(same)]
 fn same_objects(a: &Fields, b: &Fields) -> bool
-    ensures { result ≡ (bytes_eq a.now.class b.now.class && same_fields (map (λ f. (f.0, same f.1)) a.now.fields) b.now.fields) }
+    ensures { result ≡ (bytes_eq a.now.class b.now.class
+        && same_fields (map (λ f. (f.0, same f.1)) a.now.fields) b.now.fields) }
 {
     same_names(&a.class, &b.class) && same_fields(&a.fields, &b.fields)
 }
@@ -169,7 +171,8 @@ fn some_field(name: &[u8], value: &Value, ys: &[(Name, Value)]) -> bool
 
 #[cycle(same)]
 fn same_dumped(a: &Dumped, b: &Dumped) -> bool
-    ensures { result ≡ ((bytes_eq a.now.0 b.now.0 && bytes_eq a.now.1 b.now.1) && same_vars (map (λ f. (f.0, same f.1)) a.now.2) b.now.2) }
+    ensures { result ≡ ((bytes_eq a.now.0 b.now.0 && bytes_eq a.now.1 b.now.1)
+        && same_vars (map (λ f. (f.0, same f.1)) a.now.2) b.now.2) }
 {
     same_names(&a.class, &b.class)
         && a.bytes.as_slice() == b.bytes.as_slice()

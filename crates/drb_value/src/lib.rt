@@ -6,12 +6,13 @@
 //! and the names of fields are distinct, and no dumped value is of class `DRb::DRbObject`.
 //!
 //! Read this file for the types, then `names.rt`, `hashes.rt` and `lists.rt` for what goes into a value, `makers.rt`
-//! for how one is made, `equality.rt`, `sizes.rt` and `copies.rt` for what can be asked of it. `specs/View.antt` says
-//! which tree a node is.
+//! for how one is made, `equality.rt`, `sizes.rt`, `fitting.rt` and `copies.rt` for what can be asked of it.
+//! `specs/View.antt` says which tree a node is.
 #![tactic(auto)]
 
 mod copies;
 mod equality;
+mod fitting;
 mod hashes;
 mod lists;
 mod makers;
@@ -23,6 +24,7 @@ mod tests;
 pub use copies::copy_items;
 pub use drb_tree::{Bytes, Code, RefId, Remote, Text};
 pub use equality::same;
+pub use fitting::fits;
 pub use hashes::PairError;
 pub use names::NameError;
 pub use sqlite_items::{Boxed, Items};

@@ -75,7 +75,10 @@ fn nodes_of_items(items: &[Value]) -> u64
 
 #[cycle(nodes)]
 fn nodes_of_pairs(pairs: &Pairs) -> u64
-    ensures { result ≡ min (total_pairs (map (λ p. (nodes p.0, nodes p.1)) pairs.now.0) + some_or_0 (option_map nodes pairs.now.1)) (2 ^ 64 - 1) }
+    ensures { result ≡ min
+        (total_pairs (map (λ p. (nodes p.0, nodes p.1)) pairs.now.0)
+        + some_or_0 (option_map nodes pairs.now.1))
+        (2 ^ 64 - 1) }
 {
     let mut sum = 0u64;
     for pair in pairs.pairs.as_slice() {
@@ -90,7 +93,9 @@ fn nodes_of_pairs(pairs: &Pairs) -> u64
 
 #[cycle(nodes)]
 fn nodes_of_object(object: &Fields) -> u64
-    ensures { result ≡ min (1 + heavy object.now.class + total_fields (map (λ f. (f.0, nodes f.1)) object.now.fields)) (2 ^ 64 - 1) }
+    ensures { result ≡ min
+        (1 + heavy object.now.class + total_fields (map (λ f. (f.0, nodes f.1)) object.now.fields))
+        (2 ^ 64 - 1) }
 {
     nodes_of_fields(&object.fields)
         .saturating_add(heavy(object.class.as_slice()))
@@ -99,7 +104,10 @@ fn nodes_of_object(object: &Fields) -> u64
 
 #[cycle(nodes)]
 fn nodes_of_dumped(dumped: &Dumped) -> u64
-    ensures { result ≡ min (heavy dumped.now.0 + heavy dumped.now.1 + total_fields (map (λ f. (f.0, nodes f.1)) dumped.now.2)) (2 ^ 64 - 1) }
+    ensures { result ≡ min
+        (heavy dumped.now.0 + heavy dumped.now.1
+        + total_fields (map (λ f. (f.0, nodes f.1)) dumped.now.2))
+        (2 ^ 64 - 1) }
 {
     nodes_of_fields(dumped.vars())
         .saturating_add(heavy(dumped.class().as_slice()))

@@ -22,3 +22,8 @@ pub mod ShortestLongs
 pub mod Answering
 pub mod Rows
 pub mod WrittenRows
+pub mod Froms
+pub mod KeptSymbols
+pub mod KeptValues
+pub mod KeptParts
+pub mod KeptDumps

@@ -14,7 +14,7 @@ power_suc : (k : ℕ) → 256 ^ suc k ≡ 256 * 256 ^ k
 power_suc k = simp unary_clauses (omega arith)
 
 -- k bytes hold a number below 256 to the power k
-little_below : (bs : List ℕ) → AreBytes bs → little bs < 256 ^ length bs
+pub little_below : (bs : List ℕ) → AreBytes bs → little bs < 256 ^ length bs
 little_below [] h = omega arith
 little_below (b ∷ bs) h = omega (arith, All-head (λ x. x < 256) b bs h, little_below bs (All-tail (λ x. x < 256) b bs h), power_suc (length bs))
 

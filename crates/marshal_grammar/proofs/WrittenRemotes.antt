@@ -170,7 +170,7 @@ and_both : (a b : Bool) → a && b ≡ true → (a ≡ true) × (b ≡ true)
 and_both true b e = (refl, e)
 and_both false b e = absurd (cc)
 
-ascii_bytes : (bs : List ℕ) → all_ascii bs ≡ true → IsAscii bs
+pub ascii_bytes : (bs : List ℕ) → all_ascii bs ≡ true → IsAscii bs
 ascii_bytes [] e i = omega arith
 ascii_bytes (b ∷ bs) e zero = less_true b 128 (and_both (nat_lt b 128) (all_ascii bs) e).0
 ascii_bytes (b ∷ bs) e (suc i) = ascii_bytes bs (and_both (nat_lt b 128) (all_ascii bs) e).1 i

@@ -28,19 +28,24 @@ NeverBoth = (bs : List ℕ) → HasDump bs → HasRefusal bs → ⊥
 
 -- one front at most is a dump, and of one value; what follows it, x or y, has no say
 abbrev pub OneDump : Type 0
-OneDump = (a b x y : List ℕ) (v w : Tree) → Dump a v → Dump b w → a ++ x ≡ b ++ y → (a ≡ b) × (v ≡ w)
+OneDump = (a b x y : List ℕ) (v w : Tree)
+    → Dump a v → Dump b w → a ++ x ≡ b ++ y → (a ≡ b) × (v ≡ w)
 
 -- one refusal at most holds
 abbrev pub OneRefusal : Type 0
-OneRefusal = (bs : List ℕ) (v w : Why) (at there : ℕ) → Refuses bs v at → Refuses bs w there → (v ≡ w) × (at ≡ there)
+OneRefusal = (bs : List ℕ) (v w : Why) (at there : ℕ)
+    → Refuses bs v at → Refuses bs w there → (v ≡ w) × (at ≡ there)
 
--- a dump stays a dump of the same value, whatever follows: it is what reading gives, and the rest is left
+-- a dump stays a dump of the same value, whatever follows: it is what reading gives,
+-- and the rest is left
 abbrev pub AnyRest : Type 0
-AnyRest = (b rest : List ℕ) (v : Tree) → Dump b v → (d : Context) × (dump_of (b ++ rest) ≡ Ok (v, d, rest))
+AnyRest = (b rest : List ℕ) (v : Tree)
+    → Dump b v → (d : Context) × (dump_of (b ++ rest) ≡ Ok (v, d, rest))
 
 -- reading gives a value exactly where a front of the bytes spells it
 abbrev pub ReadsDumps : Type 0
-ReadsDumps = (bs rest : List ℕ) (v : Tree) (d : Context) → (dump_of bs ≡ Ok (v, d, rest)) ↔ ((b : List ℕ) × Spells dump opening b v d × (bs ≡ b ++ rest))
+ReadsDumps = (bs rest : List ℕ) (v : Tree) (d : Context)
+    → (dump_of bs ≡ Ok (v, d, rest)) ↔ ((b : List ℕ) × Spells dump opening b v d × (bs ≡ b ++ rest))
 
 -- reading refuses exactly where the grammar does
 abbrev pub ReadsRefusals : Type 0
@@ -50,8 +55,14 @@ ReadsRefusals = (bs : List ℕ) (r : Refusal) → (dump_of bs ≡ Err r) ↔ Ref
 -- whatever follows it, exactly this front is a dump, and of no other value.
 abbrev pub ReadsSpelled : Type 0
 ReadsSpelled = (v : Tree) → WellKept v → Ranged v → Fits v
-    → Dump (spelled v) v × ((b rest tail : List ℕ) (w : Tree) → Dump b w → spelled v ++ rest ≡ b ++ tail → (b ≡ spelled v) × (w ≡ v))
+    → Dump (spelled v) v
+    × ((b rest tail : List ℕ) (w : Tree) → Dump b w → spelled v ++ rest ≡ b ++ tail → (b ≡ spelled v) × (w ≡ v))
+
+-- The value of a dump fits into a dump, and is well kept and ranged.
+abbrev pub DumpsFit : Type 0
+DumpsFit = (b : List ℕ) (v : Tree) → AreBytes b → Dump b v → Fits v × WellKept v × Ranged v
 
 -- Of each number that has a spelling as a long, the written bytes are one, and no spelling has fewer.
 abbrev pub ShortestLongs : Type 0
-ShortestLongs = (b : List ℕ) (n : ℤ) → AreBytes b → Long b n → Long (long_bytes n) n × (length (long_bytes n) ≤ length b)
+ShortestLongs = (b : List ℕ) (n : ℤ)
+    → AreBytes b → Long b n → Long (long_bytes n) n × (length (long_bytes n) ≤ length b)

@@ -31,7 +31,8 @@ long_from n =
     else if nat_lt n 123 then (n + 5) ∷ []
     else fewest n ∷ bytes_of (fewest n) n
 
--- the shortest long of -(m + 1): the byte -(m + 1) - 5 down to -123, else the fewest bytes, of the number with 256 for each of them multiplied added
+-- the shortest long of -(m + 1): the byte -(m + 1) - 5 down to -123, else the fewest bytes,
+-- of the number with 256 for each of them multiplied added
 abbrev pub long_below : ℕ → List ℕ
 long_below m =
     if nat_lt m 123 then (250 - m) ∷ []
@@ -66,7 +67,7 @@ new_symbol s symbols = ([], symbols ++ (s ∷ []))
 -- a symbol that was written before is a link to it, another one is written so
 abbrev pub linked_or : Writing → Option ℕ → Writing
 linked_or w None = w
-linked_or w (Some k) = these (59 ∷ long_from k)
+linked_or w (Some k) = these (59 ∷ long_from k)  -- `;`
 
 -- a symbol: a link where it was written before, else what w writes
 abbrev pub known_or : List ℕ → Writing → Writing
@@ -74,21 +75,23 @@ known_or s w symbols = linked_or w (position (λ t. bytes_eq t s) symbols) symbo
 
 -- a symbol of ASCII: `:`, a length and bytes
 abbrev pub ascii_symbol : List ℕ → Writing
-ascii_symbol s = known_or s (these (58 ∷ string_bytes_of s) then new_symbol s)
+ascii_symbol s = known_or s (these (58 ∷ string_bytes_of s) then new_symbol s)  -- `:`
 
--- one encoding variable: the symbol `E` and this byte
+-- one encoding variable: a count of 1 (06), the symbol `E` (69) and this byte
 abbrev pub encoding_bytes : ℕ → Writing
 encoding_bytes b = these (6 ∷ []) then ascii_symbol (69 ∷ []) then these (b ∷ [])
 
--- a symbol that is not ASCII: under `I`, with `E` true
+-- a symbol that is not ASCII: `I` (73), `:` (58), and `E` true, `T` (84)
 abbrev pub utf8_symbol : List ℕ → Writing
-utf8_symbol s = known_or s (these (73 ∷ 58 ∷ string_bytes_of s) then new_symbol s then encoding_bytes 84)
+utf8_symbol s =
+    known_or s (these (73 ∷ 58 ∷ string_bytes_of s) then new_symbol s then encoding_bytes 84)
 
 -- a symbol: its first occurrence whole, later ones as links
 abbrev pub symbol_bytes : List ℕ → Writing
 symbol_bytes s = if all_ascii s then ascii_symbol s else utf8_symbol s
 
--- a text: binary bare, US-ASCII with `E` false, UTF-8 with `E` true
+-- a text: binary bare, `"` (34); US-ASCII under `I` (73) with `E` false, `F` (70);
+-- UTF-8 under `I` with `E` true, `T` (84)
 abbrev pub text_bytes : List ℕ → Code → Writing
 text_bytes s Binary = these (34 ∷ string_bytes_of s)
 text_bytes s Ascii = these (73 ∷ 34 ∷ string_bytes_of s) then encoding_bytes 70
@@ -99,24 +102,26 @@ abbrev pub units : ℕ → ℕ → ℕ
 units zero m = 0
 units (suc k) m = if m == 0 then 0 else suc (units k (m / 65536))
 
--- `l`, the sign, and the magnitude in the fewest 16-bit units
+-- `l` (108), the sign, and the magnitude in the fewest 16-bit units
 abbrev pub big_bytes : ℕ → ℕ → List ℕ
 big_bytes sign m = let n = units 8 m in 108 ∷ sign ∷ (long_from n ++ bytes_of (2 * n) m)
 
--- an integer: from -2^30 to 2^30 - 1 as `i`, another as `l`
+-- an integer: from -2^30 to 2^30 - 1 as `i` (105), another as `l` with `+` (43) or `-` (45)
 abbrev pub int_bytes : ℤ → List ℕ
 int_bytes (pos n) = if nat_lt n (2 ^ 30) then 105 ∷ long_from n else big_bytes 43 n
 int_bytes (negsuc m) = if nat_lt m (2 ^ 30) then 105 ∷ long_below m else big_bytes 45 (suc m)
 
 -- the id of a remote object, as a value
 abbrev pub id_bytes_of : RefId → Writing
-id_bytes_of R.Front = these (48 ∷ [])
+id_bytes_of R.Front = these (48 ∷ [])  -- `0`
 id_bytes_of (R.Number i) = these (int_bytes i)
 id_bytes_of (R.Text t) = text_bytes t.bytes t.code
 
--- the inner dump of a remote object: the list of its uri and its id, with symbols of its own
+-- the inner dump of a remote object, with symbols of its own: 04 and 08, `[` (91),
+-- the count 2 (07), its uri and its id
 abbrev pub remote_bytes : Remote → List ℕ
-remote_bytes r = ((these (4 ∷ 8 ∷ 91 ∷ 7 ∷ []) then text_bytes r.uri.bytes r.uri.code then id_bytes_of r.id) []).0
+remote_bytes r =
+    ((these (4 ∷ 8 ∷ 91 ∷ 7 ∷ []) then text_bytes r.uri.bytes r.uri.code then id_bytes_of r.id) []).0
 
 -- values, one after the other
 abbrev pub each_value : List Writing → Writing
@@ -133,7 +138,7 @@ abbrev pub each_field : List (List ℕ × Writing) → Writing
 each_field [] = these []
 each_field (f ∷ fs) = symbol_bytes f.0 then f.1 then each_field fs
 
--- a hash, without default or with one
+-- a hash, without default, `{` (123), or with one, `}` (125)
 abbrev pub hash_bytes : List (Writing × Writing) → Option Writing → Writing
 hash_bytes ps None = these (123 ∷ long_from (length ps)) then each_pair ps
 hash_bytes ps (Some d) = these (125 ∷ long_from (length ps)) then each_pair ps then d
@@ -142,32 +147,35 @@ hash_bytes ps (Some d) = these (125 ∷ long_from (length ps)) then each_pair ps
 abbrev pub fields_bytes : List (List ℕ × Writing) → Writing
 fields_bytes fs = these (long_from (length fs)) then each_field fs
 
--- the bytes of a class that dumps itself: as `u` without variables, else as `Iu`
+-- the bytes of a class that dumps itself: as `u` (117) without variables, else as `Iu` (73, 117)
 abbrev pub dumped_bytes : List ℕ → List ℕ → List (List ℕ × Writing) → Writing
 dumped_bytes c bs [] = these (117 ∷ []) then symbol_bytes c then these (string_bytes_of bs)
-dumped_bytes c bs (f ∷ fs) = these (73 ∷ 117 ∷ []) then symbol_bytes c then these (string_bytes_of bs) then fields_bytes (f ∷ fs)
+dumped_bytes c bs (f ∷ fs) =
+    these (73 ∷ 117 ∷ []) then symbol_bytes c then these (string_bytes_of bs) then fields_bytes (f ∷ fs)
 
 -- what a value writes, from what its parts write
 abbrev pub writing_step : Tree-F Writing → Writing
-writing_step Tree-F.Nil = these (48 ∷ [])
-writing_step (Tree-F.Bool b) = these ((if b then 84 else 70) ∷ [])
+writing_step Tree-F.Nil = these (48 ∷ [])  -- `0`
+writing_step (Tree-F.Bool b) = these ((if b then 84 else 70) ∷ [])  -- `T`, `F`
 writing_step (Tree-F.Int i) = these (int_bytes i)
 writing_step (Tree-F.Sym s) = symbol_bytes s
 writing_step (Tree-F.Text t) = text_bytes t.bytes t.code
-writing_step (Tree-F.List ws) = these (91 ∷ long_from (length ws)) then each_value ws
+writing_step (Tree-F.List ws) = these (91 ∷ long_from (length ws)) then each_value ws  -- `[`
 writing_step (Tree-F.Hash ps d) = hash_bytes ps d
-writing_step (Tree-F.Class n) = these (99 ∷ string_bytes_of n)
-writing_step (Tree-F.Module n) = these (109 ∷ string_bytes_of n)
-writing_step (Tree-F.Object c fs) = these (111 ∷ []) then symbol_bytes c then fields_bytes fs
-writing_step (Tree-F.Struct c fs) = these (83 ∷ []) then symbol_bytes c then fields_bytes fs
+writing_step (Tree-F.Class n) = these (99 ∷ string_bytes_of n)  -- `c`
+writing_step (Tree-F.Module n) = these (109 ∷ string_bytes_of n)  -- `m`
+writing_step (Tree-F.Object c fs) = these (111 ∷ []) then symbol_bytes c then fields_bytes fs  -- `o`
+writing_step (Tree-F.Struct c fs) = these (83 ∷ []) then symbol_bytes c then fields_bytes fs  -- `S`
 writing_step (Tree-F.Dumped c bs fs) = dumped_bytes c bs fs
-writing_step (Tree-F.Wrapped c w) = these (85 ∷ []) then symbol_bytes c then w
-writing_step (Tree-F.Remote r) = these (117 ∷ []) then symbol_bytes remote_class then these (string_bytes_of (remote_bytes r))
+writing_step (Tree-F.Wrapped c w) = these (85 ∷ []) then symbol_bytes c then w  -- `U`
+writing_step (Tree-F.Remote r) =
+    these (117 ∷ []) then symbol_bytes remote_class then these (string_bytes_of (remote_bytes r))  -- `u`
 
 -- what a value writes
 abbrev pub writing : Tree → Writing
 writing = fold-Tree Writing writing_step
 
--- the written spelling of a value, as a dump: the bytes 04 and 08, and what it writes with no symbol written before
+-- the written spelling of a value, as a dump: the bytes 04 and 08,
+-- and what it writes with no symbol written before
 abbrev pub spelled : Tree → List ℕ
 spelled v = 4 ∷ 8 ∷ (writing v []).0

@@ -53,8 +53,8 @@ encoding_count at = do
 -- what the value of `E` says: `T` UTF-8, `F` US-ASCII
 abbrev pub code_of : ℕ → Option Code
 code_of b =
-    if b == 84 then Some Utf8
-    else if b == 70 then Some Ascii
+    if b == 84 then Some Utf8  -- `T`
+    else if b == 70 then Some Ascii  -- `F`
     else None
 
 -- the encoding that was found; any other byte is refused
@@ -65,11 +65,19 @@ some_code at (Some code) = gives code
 -- after the name of an encoding variable, which is `E`: its value
 abbrev pub encoding_value : ℕ → List ℕ → Grammar Code
 encoding_value at e = do
-  must (bytes_eq e (69 ∷ [])) why.Encoding at
+  must (bytes_eq e (69 ∷ [])) why.Encoding at  -- `E`
   b ← byte
   some_code at (code_of b)
 
--- The symbols under `I` that wait for the symbol `E` of their encoding, the last first: the place and the bytes of each.
+-- The symbols under `I` that wait for the symbol `E` of their encoding, the last first:
+-- the place and the bytes of each. In the bytes below, the name `ä` waits for an `E` that is
+-- under `I` itself and waits for its own, which is a link to it:
+--
+--     49 3a 07 c3 a4 06    I : ä, one variable; symbol 0, which now waits
+--     49 3a 06 45 06       I : E, one variable; symbol 1, which now waits too
+--     3b 06                ; the symbol 1, `E`: that of the last that waits
+--     54                   T, so that this one, `E`, is UTF-8 and read; it is that of `ä`
+--     54                   T, so that `ä` is UTF-8 and read
 abbrev pub Waiting : Type 0
 Waiting = List (ℕ × List ℕ)
 
@@ -88,12 +96,13 @@ waits at ws s zero = do
   ended ws s
 waits at ws s (suc n) = gives (inl ((at, s) ∷ ws))
 
--- after `I`, where a symbol must stand: `:`, a length and bytes, and encoding variables; the symbol has its number before its variables are read
+-- after `I`, where a symbol must stand: `:`, a length and bytes, and encoding variables;
+-- the symbol has its number before its variables are read
 abbrev pub marked_round : ℕ → Waiting → Grammar (Waiting ⊎ List ℕ)
 marked_round at ws = do
   q ← here
   b ← byte
-  must (b == 58) (why.BadType b) q
+  must (b == 58) (why.BadType b) q  -- `:`
   s ← string
   becomes (add_symbol s)
   n ← encoding_count at
@@ -135,7 +144,8 @@ encoding_by at (suc n) = do
   e ← symbol
   encoding_value at e
 
--- encoding variables: none, binary; one, the symbol `E` and `T` or `F`; the symbol `E` counts nothing
+-- encoding variables: none, binary; one, the symbol `E` and `T` or `F`;
+-- the symbol `E` counts nothing
 abbrev pub encoding : ℕ → Grammar Code
 encoding at = do
   n ← encoding_count at

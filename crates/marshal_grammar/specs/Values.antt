@@ -82,7 +82,7 @@ abbrev pub is_i128 : ℤ → Bool
 is_i128 (pos n) = nat_lt n (2 ^ 127)
 is_i128 (negsuc n) = nat_lt n (2 ^ 127)
 
--- the number of a sign and bytes, the first the least
+-- the number of a sign, `+` (43) or `-` (45), and bytes, the first the least
 abbrev pub signed : ℕ → List ℕ → ℤ
 signed sign bs = if sign == 43 then pos (little bs) else neg_ℤ (pos (little bs))
 
@@ -91,7 +91,7 @@ abbrev pub big_int : ℕ → Grammar Tree
 big_int at = do
   q ← here
   sign ← byte
-  must ((sign == 43) || (sign == 45)) (why.BadType sign) q
+  must ((sign == 43) || (sign == 45)) (why.BadType sign) q  -- `+`, `-`
   n ← count
   bs ← bytes (2 * n)
   must (is_i128 (signed sign bs)) why.BigInteger at
@@ -180,7 +180,8 @@ abbrev pub held_value : Held → List (List ℕ × Tree) → Tree
 held_value (inl r) fs = remote r
 held_value (inr d) fs = dumped d.0 d.1 fs
 
--- the bytes of a `DRb::DRbObject` begin with the dump of its uri and id; those of another class are kept
+-- the bytes of a `DRb::DRbObject` begin with the dump of its uri and id;
+-- those of another class are kept
 abbrev pub held_by : Grammar Remote → ℕ → List ℕ → List ℕ → Bool → Grammar Held
 held_by reference at c s true = do
   r ← within reference s why.BadReference at
@@ -230,7 +231,8 @@ finished at None = refuses why.ObjectLink at
 finished at (Some None) = refuses why.Cyclic at
 finished at (Some (Some v)) = gives v
 
--- after `@`: a long, the number of a finished object, of which a copy stands here; it fits into the levels that are left, and counts its nodes
+-- after `@`: a long, the number of a finished object, of which a copy stands here;
+-- it fits into the levels that are left, and counts its nodes
 abbrev pub link : ℕ → ℕ → Grammar Tree
 link room at = do
   n ← long
@@ -254,7 +256,8 @@ marked_value reference part at = do
   b ← byte
   marked_by reference part at q b (kind_of b)
 
--- What stands after the type byte at this place. So many levels are left, of which this value takes one; its parts are read by part.
+-- What stands after the type byte at this place. So many levels are left,
+-- of which this value takes one; its parts are read by part.
 unfoldable pub body : Grammar Remote → Grammar Tree → ℕ → Kind → ℕ → Grammar Tree
 body reference part room kind.Nil at = simple at nil
 body reference part room kind.True at = simple at (bool true)

@@ -1,6 +1,6 @@
 //! The laws of dumps: each function is a theorem, which its contract states.
 
-ghost use Rattle.marshal_grammar.specs.Laws.{SomeAnswer, NeverBoth, OneDump, OneRefusal, AnyRest, ReadsDumps, ReadsRefusals, ReadsSpelled, ShortestLongs};
+ghost use Rattle.marshal_grammar.specs.Laws.{SomeAnswer, NeverBoth, OneDump, OneRefusal, AnyRest, ReadsDumps, ReadsRefusals, ReadsSpelled, DumpsFit, ShortestLongs};
 
 /// Of each list of bytes either exactly one front is a dump, of exactly one value, or exactly one refusal holds.
 ///
@@ -32,6 +32,13 @@ pub fn reading_agrees()
 /// Source: docs/MARSHAL.md, The written spelling.
 pub fn reads_spelled()
     ensures { ReadsSpelled }
+{}
+
+/// The value of a dump fits into a dump and keeps what values keep, so that what is written of it is read again.
+///
+/// Source: docs/MARSHAL.md, The written spelling.
+pub fn dumps_fit()
+    ensures { DumpsFit }
 {}
 
 /// The written spelling of a long is the shortest that it has.

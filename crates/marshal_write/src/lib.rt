@@ -3,7 +3,7 @@
 //! A dump is written in one pass over a value, onto the end of a list of bytes. The crate stands on the values of
 //! `drb_value` and on the definition of the written spelling, `Spelled` of `marshal_grammar`. It promises that what is
 //! appended is exactly that spelling, that it is refused exactly where it is longer than a dump may be, and that then
-//! nothing is appended.
+//! nothing is appended. What was appended of a value that fits is read again as that value: `laws.rt`.
 //!
 //! Read this file for the call, then `writer.rt` for what a writer holds, `values.rt` for the walk over a value,
 //! `words.rt` for symbols, texts and remote objects, `numbers.rt` for numbers and lengths, and `symbols.rt` for the
@@ -11,10 +11,9 @@
 #![tactic(auto)]
 
 mod error;
+mod laws;
 mod numbers;
 mod symbols;
-#[cfg(test)]
-mod tests;
 mod values;
 mod words;
 mod writer;
@@ -25,6 +24,7 @@ ghost use Rattle.marshal_write.specs.Limits.{max_dump};
 
 use drb_value::Value;
 pub use error::WriteError;
+pub use laws::written_is_read_again;
 use std::mem;
 use writer::{MAX_DUMP, Writer};
 

@@ -32,7 +32,9 @@ impl Writer {
     /// Writes a value of that form.
     #[cycle(values)]
     fn put_node(&mut self, node: &Node) -> Result<(), WriteError>
-        ensures { Writes (writing_step (map-Tree Tree Writing writing (layer node.now))) self.old self.new result }
+        ensures { Writes
+            (writing_step (map-Tree Tree Writing writing (layer node.now)))
+            self.old self.new result }
     {
         match node {
             Node::Nil => self.put(b"0"),
@@ -55,7 +57,10 @@ impl Writer {
     /// Writes a list of these items.
     #[cycle(values)]
     fn put_list(&mut self, items: &[Value]) -> Result<(), WriteError>
-        ensures { Writes (these (91 ∷ long_from (length (map writing items.now))) then each_value (map writing items.now)) self.old self.new result }
+        ensures { Writes
+            (these (91 ∷ long_from (length (map writing items.now)))
+            then each_value (map writing items.now))
+            self.old self.new result }
     {
         self.put(b"[")?;
         self.put_count(items.len())?;
@@ -68,7 +73,10 @@ impl Writer {
     /// Writes a hash: without a default as `{`, with one as `}`.
     #[cycle(values)]
     fn put_hash(&mut self, pairs: &Pairs) -> Result<(), WriteError>
-        ensures { Writes (hash_bytes (map (λ p. (writing p.0, writing p.1)) pairs.now.0) (option_map writing pairs.now.1)) self.old self.new result }
+        ensures { Writes
+            (hash_bytes (map (λ p. (writing p.0, writing p.1)) pairs.now.0)
+            (option_map writing pairs.now.1))
+            self.old self.new result }
     {
         self.put(&[hash_mark(&pairs.default)])?;
         self.put_count(pairs.len())?;
@@ -79,7 +87,9 @@ impl Writer {
     /// Writes keys and values.
     #[cycle(values)]
     fn put_pairs(&mut self, pairs: &[(Value, Value)]) -> Result<(), WriteError>
-        ensures { Writes (each_pair (map (λ p. (writing p.0, writing p.1)) pairs.now)) self.old self.new result }
+        ensures { Writes
+            (each_pair (map (λ p. (writing p.0, writing p.1)) pairs.now))
+            self.old self.new result }
     {
         for pair in pairs {
             self.put_value(&pair.0)?;
@@ -102,7 +112,10 @@ impl Writer {
     /// Writes an object or a struct: its mark, its class and its fields.
     #[cycle(values)]
     fn put_object(&mut self, mark: u8, object: &Fields) -> Result<(), WriteError>
-        ensures { Writes (these (mark ∷ []) then symbol_bytes object.now.class then fields_bytes (map (λ f. (f.0, writing f.1)) object.now.fields)) self.old self.new result }
+        ensures { Writes
+            (these (mark ∷ []) then symbol_bytes object.now.class
+            then fields_bytes (map (λ f. (f.0, writing f.1)) object.now.fields))
+            self.old self.new result }
     {
         self.put(&[mark])?;
         self.put_symbol(object.class.as_slice())?;
@@ -112,7 +125,9 @@ impl Writer {
     /// Writes a count and so many fields.
     #[cycle(values)]
     fn put_fields(&mut self, fields: &FieldList) -> Result<(), WriteError>
-        ensures { Writes (fields_bytes (map (λ f. (f.0, writing f.1)) fields.now)) self.old self.new result }
+        ensures { Writes
+            (fields_bytes (map (λ f. (f.0, writing f.1)) fields.now))
+            self.old self.new result }
     {
         self.put_count(fields.len())?;
         for field in fields.as_slice() {
@@ -125,7 +140,9 @@ impl Writer {
     /// Writes a value that its class dumped as bytes: without variables as `u`, with some as `Iu`.
     #[cycle(values)]
     fn put_dumped(&mut self, dumped: &Dumped) -> Result<(), WriteError>
-        ensures { Writes (dumped_bytes dumped.now.0 dumped.now.1 (map (λ f. (f.0, writing f.1)) dumped.now.2)) self.old self.new result }
+        ensures { Writes
+            (dumped_bytes dumped.now.0 dumped.now.1 (map (λ f. (f.0, writing f.1)) dumped.now.2))
+            self.old self.new result }
     {
         if dumped.vars().is_empty() {
             self.put_dumped_as(b"u", dumped)
@@ -137,7 +154,10 @@ impl Writer {
 
     /// Writes the mark, the class and the bytes of a value that its class dumped as bytes.
     fn put_dumped_as(&mut self, mark: &[u8], dumped: &Dumped) -> Result<(), WriteError>
-        ensures { Writes (these mark.now then symbol_bytes dumped.now.0 then these (string_bytes_of dumped.now.1)) self.old self.new result }
+        ensures { Writes
+            (these mark.now then symbol_bytes dumped.now.0
+            then these (string_bytes_of dumped.now.1))
+            self.old self.new result }
     {
         self.put(mark)?;
         self.put_symbol(dumped.class().as_slice())?;
@@ -147,7 +167,9 @@ impl Writer {
     /// Writes a value that its class dumped as another value.
     #[cycle(values)]
     fn put_wrapped(&mut self, wrapped: &Wrapped) -> Result<(), WriteError>
-        ensures { Writes (these (85 ∷ []) then symbol_bytes wrapped.now.class then writing wrapped.now.inner) self.old self.new result }
+        ensures { Writes
+            (these (85 ∷ []) then symbol_bytes wrapped.now.class then writing wrapped.now.inner)
+            self.old self.new result }
     {
         self.put(b"U")?;
         self.put_symbol(wrapped.class.as_slice())?;

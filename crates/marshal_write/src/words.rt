@@ -8,7 +8,7 @@ ghost use Rattle.marshal_write.specs.Written.{Writes};
 
 use crate::WriteError;
 use crate::writer::Writer;
-use drb_tree::{Code, RefId, Remote, Text};
+use drb_tree::{Code, RefId, Remote, Text, all_ascii};
 use std::alloc::Global;
 
 /// The class of remote objects.
@@ -19,7 +19,7 @@ impl Writer {
     pub fn put_symbol(&mut self, name: &[u8]) -> Result<(), WriteError>
         ensures { Writes (symbol_bytes name.now) self.old self.new result }
     {
-        if is_ascii(name) {
+        if all_ascii(name) {
             self.put_ascii_symbol(name)
         } else {
             self.put_utf8_symbol(name)
@@ -88,7 +88,9 @@ impl Writer {
 
     /// Writes a text with one encoding variable of that value.
     fn put_encoded(&mut self, bytes: &[u8], value: u8) -> Result<(), WriteError>
-        ensures { Writes (these (73 ∷ 34 ∷ string_bytes_of bytes.now) then encoding_bytes value) self.old self.new result }
+        ensures { Writes
+            (these (73 ∷ 34 ∷ string_bytes_of bytes.now) then encoding_bytes value)
+            self.old self.new result }
     {
         self.put_marked(b"I\"", bytes)?;
         self.put_encoding(value)
@@ -104,7 +106,10 @@ impl Writer {
 
     /// Writes a remote object: `u`, its class, and as bytes a dump of its own, of its uri and its id.
     pub fn put_remote(&mut self, remote: &Remote) -> Result<(), WriteError>
-        ensures { Writes (these (117 ∷ []) then symbol_bytes remote_class then these (string_bytes_of (remote_bytes remote.now))) self.old self.new result }
+        ensures { Writes
+            (these (117 ∷ []) then symbol_bytes remote_class
+            then these (string_bytes_of (remote_bytes remote.now)))
+            self.old self.new result }
     {
         self.put(b"u")?;
         self.put_symbol(REMOTE_CLASS)?;
@@ -115,7 +120,10 @@ impl Writer {
 
     /// Writes the dump that a remote object makes of itself.
     fn put_remote_list(&mut self, remote: &Remote) -> Result<(), WriteError>
-        ensures { Writes (these (4 ∷ 8 ∷ 91 ∷ 7 ∷ []) then text_bytes remote.now.uri.bytes remote.now.uri.code then id_bytes_of remote.now.id) self.old self.new result }
+        ensures { Writes
+            (these (4 ∷ 8 ∷ 91 ∷ 7 ∷ []) then text_bytes remote.now.uri.bytes remote.now.uri.code
+            then id_bytes_of remote.now.id)
+            self.old self.new result }
     {
         self.put(b"\x04\x08[\x07")?;
         self.put_text(&remote.uri)?;
@@ -144,16 +152,4 @@ fn remote_dump(alloc: Global, remote: &Remote, limit: usize) -> Result<Vec<u8>, 
     let mut inner = Writer::over(alloc, Vec::new(alloc), limit);
     inner.put_remote_list(remote)?;
     Ok(inner.into_bytes())
-}
-
-/// Whether every byte is below 128.
-fn is_ascii(bytes: &[u8]) -> bool
-    ensures { result ≡ all_ascii bytes.now }
-{
-    for byte in bytes {
-        if *byte >= 128 {
-            return false;
-        }
-    }
-    true
 }

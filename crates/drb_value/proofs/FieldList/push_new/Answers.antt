@@ -1,6 +1,6 @@
 use Rattle.std.proofs.Common.{◌≡◌, false, ◌∙◌, ap}
 use Rattle.drb_tree.specs.Kept.{has_name}
-use Rattle.drb_value.proofs.Distinct.{names_distinct-push}
+use Rattle.drb_tree.proofs.Distinct.{names_distinct-push}
 use Rattle.drb_value.proofs.FieldList.push_new.Goals as goal
 
 pub invariant_of-self-2 : goal.invariant_of-self-2

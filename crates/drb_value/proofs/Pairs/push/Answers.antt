@@ -1,6 +1,6 @@
 use Rattle.std.proofs.Common.{◌≡◌, false, sym, ◌∙◌, ap}
 use Rattle.drb_tree.specs.Kept.{has_key}
-use Rattle.drb_value.proofs.Distinct.{keys_distinct-push}
+use Rattle.drb_tree.proofs.Distinct.{keys_distinct-push}
 use Rattle.drb_value.proofs.Pairs.push.Goals as goal
 
 pub invariant_of-self-2 : goal.invariant_of-self-2

@@ -1,7 +1,7 @@
 use Rattle.std.proofs.Common.{◌≡◌, false, List, Option, ◌∙◌, ap}
 use Rattle.drb_tree.specs.declared.Tree.{Tree}
 use Rattle.drb_tree.specs.Kept.{has_key}
-use Rattle.drb_value.proofs.Distinct.{keys_distinct-push}
+use Rattle.drb_tree.proofs.Distinct.{keys_distinct-push}
 use Rattle.drb_value.proofs.Pairs.push_new.Goals as goal
 
 pub invariant_of-self-2 : goal.invariant_of-self-2

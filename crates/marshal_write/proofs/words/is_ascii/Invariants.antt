@@ -1,6 +1,0 @@
-use Rattle.std.proofs.Common.{◌≡◌, drop}
-use Rattle.drb_tree.specs.Same.{all_ascii}
-use Rattle.marshal_write.proofs.words.is_ascii.Given as goal
-
-abbrev pub invariant-loop-byte : goal.invariant-loop-byte
-invariant-loop-byte l = all_ascii l.bytes ≡ all_ascii (drop l.byte-index l.bytes)
