@@ -9,8 +9,8 @@ use Rattle.marshal_grammar.specs.Trees.{list, hash, object, structure, dumped, w
 use Rattle.marshal_read.specs.declared.steps.Raw.{Raw}
 use Rattle.marshal_read.specs.declared.steps.Step.{Step}
 use Rattle.marshal_read.specs.declared.steps.Step.TheVariants as S
-use Rattle.marshal_read.specs.Making.{Made, nothing, single, after, Fits, made, value_of, Makes, MakesOne, Leaf, since, added, Extends, AddsOne, values_in, pairs_in, fields_in, HoldsValues, HoldsPairs, HoldsFields, AddsValues, AddsPairs, AddsFields}
-use Rattle.marshal_read.proofs.Making.{join, Makes-then, Makes-step, value_is, makes_one, leaf_makes, front-all, back-all}
+use Rattle.marshal_read.specs.Making.{Made, nothing, single, after, Applies, made, value_of, Makes, MakesOne, Leaf, since, added, Extends, AddsOne, values_in, pairs_in, fields_in, HoldsValues, HoldsPairs, HoldsFields, AddsValues, AddsPairs, AddsFields}
+use Rattle.marshal_read.proofs.Making.{join, Makes-then, Makes-step, value_is, makes_one, leaf_makes, without_last-all, the_last-all}
 
 -- values, pairs or fields alone
 abbrev pub only_values : List Tree → Made
@@ -54,7 +54,7 @@ since_step a b c s h e = since_is a c (since a b ++ (s ∷ [])) (e ∙ ap (λ (z
 pub extends_step : (a b c : List Step) (s : Step) → Extends a b → c ≡ b ++ (s ∷ []) → Extends a c
 extends_step a b c s h e = extends a c (since a b ++ (s ∷ [])) (e ∙ ap (λ (z : List Step). z ++ (s ∷ [])) h ∙ append_assoc a (since a b) (s ∷ []))
 
-pub makes_step : (a b c : List Step) (s : Step) (m : Made) → Extends a b → c ≡ b ++ (s ∷ []) → Makes (since a b) m → Fits m s → Makes (since a c) (after m s)
+pub makes_step : (a b c : List Step) (s : Step) (m : Made) → Extends a b → c ≡ b ++ (s ∷ []) → Makes (since a b) m → Applies m s → Makes (since a c) (after m s)
 makes_step a b c s m h e x f = subst (λ (ss : List Step). Makes ss (after m s)) (sym (since_step a b c s h e)) (Makes-step (since a b) m s x f)
 
 -- a value more
@@ -70,7 +70,7 @@ holds_values ss vs n h e =
     let k : (made ss).values ≡ vs = ap (λ (m : Made). m.values) h.is in
     record {
       makes = subst (λ (xs : List Tree). Makes ss (only_values xs)) (sym k) h;
-      count = ap length k ∙ e;
+      size = ap length k ∙ e;
     }
 
 pub holds_pairs : (ss : List Step) (ps : List (Tree × Tree)) (n : ℕ) → Makes ss (only_pairs ps) → length ps ≡ n → IsTrue (keys_distinct ps) → HoldsPairs ss n
@@ -78,7 +78,7 @@ holds_pairs ss ps n h e d =
     let k : (made ss).pairs ≡ ps = ap (λ (m : Made). m.pairs) h.is in
     record {
       makes = subst (λ (xs : List (Tree × Tree)). Makes ss (only_pairs xs)) (sym k) h;
-      count = ap length k ∙ e;
+      size = ap length k ∙ e;
       distinct = subst (λ (xs : List (Tree × Tree)). IsTrue (keys_distinct xs)) (sym k) d;
     }
 
@@ -87,12 +87,12 @@ holds_fields ss fs n h e d =
     let k : (made ss).fields ≡ fs = ap (λ (m : Made). m.fields) h.is in
     record {
       makes = subst (λ (xs : List (List ℕ × Tree)). Makes ss (only_fields xs)) (sym k) h;
-      count = ap length k ∙ e;
+      size = ap length k ∙ e;
       distinct = subst (λ (xs : List (List ℕ × Tree)). IsTrue (names_distinct xs)) (sym k) d;
     }
 
 makes_none : Makes [] nothing
-makes_none = record { fit = tt; is = refl }
+makes_none = record { apply = tt; is = refl }
 
 pub fields_none : HoldsFields [] 0
 fields_none = holds_fields [] [] 0 makes_none refl refl
@@ -113,7 +113,7 @@ values_more a b c n h k =
     let vs : List Tree = values_in a b ++ (added b c ∷ []) in (
       record {
         extends = extends_then a b c h.extends k.extends;
-        holds = holds_values (since a c) vs (n + 1) x (omega (arith, length-append (values_in a b) (added b c ∷ []), h.holds.count));
+        holds = holds_values (since a c) vs (n + 1) x (omega (arith, length-append (values_in a b) (added b c ∷ []), h.holds.size));
       },
       ap (λ (m : Made). m.values) x.is,
     )
@@ -133,7 +133,7 @@ pairs_more a b c d e n h k l s new =
     let ps : List (Tree × Tree) = pairs_in a b ++ ((added b c, added c d) ∷ []) in (
       record {
         extends = extends_then a b e h.extends p.0;
-        holds = holds_pairs (since a e) ps (n + 1) x (omega (arith, length-append (pairs_in a b) ((added b c, added c d) ∷ []), h.holds.count)) (keys_distinct-push (pairs_in a b) (added b c, added c d) h.holds.distinct new);
+        holds = holds_pairs (since a e) ps (n + 1) x (omega (arith, length-append (pairs_in a b) ((added b c, added c d) ∷ []), h.holds.size)) (keys_distinct-push (pairs_in a b) (added b c, added c d) h.holds.distinct new);
       },
       ap (λ (m : Made). m.pairs) x.is,
     )
@@ -149,45 +149,45 @@ fields_more a b c d n s u h k l new =
     let fs : List (List ℕ × Tree) = fields_in a b ++ ((s, added b c) ∷ []) in (
       record {
         extends = extends_then a b d h.extends p.0;
-        holds = holds_fields (since a d) fs (n + 1) x (omega (arith, length-append (fields_in a b) ((s, added b c) ∷ []), h.holds.count)) (names_distinct-push (fields_in a b) (s, added b c) h.holds.distinct new);
+        holds = holds_fields (since a d) fs (n + 1) x (omega (arith, length-append (fields_in a b) ((s, added b c) ∷ []), h.holds.size)) (names_distinct-push (fields_in a b) (s, added b c) h.holds.distinct new);
       },
       ap (λ (m : Made). m.fields) x.is,
     )
 
 -- a value of parts, by the steps that made these and one more
-ends_as : (ss : List Step) (m : Made) (s : Step) (t : Tree) → Makes ss m → Fits m s → after m s ≡ single t → Makes (ss ++ (s ∷ [])) (single t)
+ends_as : (ss : List Step) (m : Made) (s : Step) (t : Tree) → Makes ss m → Applies m s → after m s ≡ single t → Makes (ss ++ (s ∷ [])) (single t)
 ends_as ss m s t h f e = subst (λ (x : Made). Makes (ss ++ (s ∷ [])) x) e (Makes-step ss m s h f)
 
 pub list_ends : (ss : List Step) (n : ℕ) → HoldsValues ss n → Makes (ss ++ (S.List n ∷ [])) (single (list (made ss).values))
 list_ends ss n h =
     let vs = (made ss).values in
-    ends_as ss (only_values vs) (S.List n) (list vs) h.makes (omega (arith, h.count)) (rw (front-all n vs (sym h.count), back-all n vs (sym h.count)) refl)
+    ends_as ss (only_values vs) (S.List n) (list vs) h.makes (omega (arith, h.size)) (rw (without_last-all n vs (sym h.size), the_last-all n vs (sym h.size)) refl)
 
 pub hash_ends : (ss : List Step) (n : ℕ) → HoldsPairs ss n → Makes (ss ++ (S.Hash n ∷ [])) (single (hash (made ss).pairs None))
 hash_ends ss n h =
     let ps = (made ss).pairs in
-    ends_as ss (only_pairs ps) (S.Hash n) (hash ps None) h.makes (omega (arith, h.count), rw (back-all n ps (sym h.count)) h.distinct) (rw (front-all n ps (sym h.count), back-all n ps (sym h.count)) refl)
+    ends_as ss (only_pairs ps) (S.Hash n) (hash ps None) h.makes (omega (arith, h.size), rw (the_last-all n ps (sym h.size)) h.distinct) (rw (without_last-all n ps (sym h.size), the_last-all n ps (sym h.size)) refl)
 
 pub object_ends : (ss : List Step) (c : List ℕ) (n : ℕ) → IsUtf8 c → HoldsFields ss n → Makes (ss ++ (S.Object c n ∷ [])) (single (object c (made ss).fields))
 object_ends ss c n u h =
     let fs = (made ss).fields in
-    ends_as ss (only_fields fs) (S.Object c n) (object c fs) h.makes (omega (arith, h.count), rw (back-all n fs (sym h.count)) h.distinct, u) (rw (front-all n fs (sym h.count), back-all n fs (sym h.count)) refl)
+    ends_as ss (only_fields fs) (S.Object c n) (object c fs) h.makes (omega (arith, h.size), rw (the_last-all n fs (sym h.size)) h.distinct, u) (rw (without_last-all n fs (sym h.size), the_last-all n fs (sym h.size)) refl)
 
 pub struct_ends : (ss : List Step) (c : List ℕ) (n : ℕ) → IsUtf8 c → HoldsFields ss n → Makes (ss ++ (S.Struct c n ∷ [])) (single (structure c (made ss).fields))
 struct_ends ss c n u h =
     let fs = (made ss).fields in
-    ends_as ss (only_fields fs) (S.Struct c n) (structure c fs) h.makes (omega (arith, h.count), rw (back-all n fs (sym h.count)) h.distinct, u) (rw (front-all n fs (sym h.count), back-all n fs (sym h.count)) refl)
+    ends_as ss (only_fields fs) (S.Struct c n) (structure c fs) h.makes (omega (arith, h.size), rw (the_last-all n fs (sym h.size)) h.distinct, u) (rw (without_last-all n fs (sym h.size), the_last-all n fs (sym h.size)) refl)
 
 pub dumped_ends : (ss : List Step) (x : Raw) (n : ℕ) → (x.class ≡ remote_class → ⊥) → IsUtf8 x.class → HoldsFields ss n → Makes (ss ++ (S.Dumped x n ∷ [])) (single (dumped x.class x.bytes (made ss).fields))
 dumped_ends ss x n f u h =
     let fs = (made ss).fields in
-    ends_as ss (only_fields fs) (S.Dumped x n) (dumped x.class x.bytes fs) h.makes (omega (arith, h.count), f, rw (back-all n fs (sym h.count)) h.distinct, u) (rw (front-all n fs (sym h.count), back-all n fs (sym h.count)) refl)
+    ends_as ss (only_fields fs) (S.Dumped x n) (dumped x.class x.bytes fs) h.makes (omega (arith, h.size), f, rw (the_last-all n fs (sym h.size)) h.distinct, u) (rw (without_last-all n fs (sym h.size), the_last-all n fs (sym h.size)) refl)
 
 pub remote_ends : (ss : List Step) (r : Remote) (n : ℕ) → HoldsFields ss n → Makes (ss ++ (S.Forget n ∷ S.Remote r ∷ [])) (single (remote r))
 remote_ends ss r n h =
     let fs = (made ss).fields in
     let x : Makes (ss ++ (S.Forget n ∷ [])) nothing =
-    subst (λ (m : Made). Makes (ss ++ (S.Forget n ∷ [])) m) (rw (front-all n fs (sym h.count)) refl) (Makes-step ss (only_fields fs) (S.Forget n) h.makes (omega (arith, h.count))) in
+    subst (λ (m : Made). Makes (ss ++ (S.Forget n ∷ [])) m) (rw (without_last-all n fs (sym h.size)) refl) (Makes-step ss (only_fields fs) (S.Forget n) h.makes (omega (arith, h.size))) in
     subst (λ (zs : List Step). Makes zs (single (remote r))) (append_assoc ss (S.Forget n ∷ []) (S.Remote r ∷ [])) (Makes-step (ss ++ (S.Forget n ∷ [])) nothing (S.Remote r) x tt)
 
 pub wrapped_ends : (ss : List Step) (c : List ℕ) → IsUtf8 c → MakesOne ss → Makes (ss ++ (S.Wrapped c ∷ [])) (single (wrapped c (value_of ss)))
@@ -202,8 +202,8 @@ default_ends a b c n h k =
     let y : Makes (since a c) (record { values = added b c ∷ []; pairs = ps; fields = [] }) =
     subst (λ (qs : List (Tree × Tree)). Makes (since a c) (record { values = added b c ∷ []; pairs = qs; fields = [] })) (append-nil ps) x in
     ends_as (since a c) (record { values = added b c ∷ []; pairs = ps; fields = [] }) (S.HashWithDefault n) (hash ps (Some (added b c))) y
-    (omega arith, omega (arith, h.holds.count), rw (back-all n ps (sym h.holds.count)) h.holds.distinct)
-    (rw (front-all n ps (sym h.holds.count), back-all n ps (sym h.holds.count)) refl)
+    (omega arith, omega (arith, h.holds.size), rw (the_last-all n ps (sym h.holds.size)) h.holds.distinct)
+    (rw (without_last-all n ps (sym h.holds.size), the_last-all n ps (sym h.holds.size)) refl)
 
 -- a value that a step ends, after what was there before
 pub closes : (a b c : List Step) (s : Step) (t : Tree) → Extends a b → c ≡ b ++ (s ∷ []) → Makes (since a b ++ (s ∷ [])) (single t) → (AddsOne a c) × (added a c ≡ t)

@@ -22,7 +22,7 @@ use Rattle.marshal_grammar.specs.Kinds.{kind_of}
 use Rattle.marshal_grammar.specs.Symbols as G
 use Rattle.marshal_grammar.specs.Values as V
 use Rattle.marshal_grammar.specs.Dumps as D
-use Rattle.marshal_read.specs.Fails.{reading}
+use Rattle.marshal_read.specs.Fails.{read_at}
 use Rattle.marshal_read.specs.State.{State, Named}
 use Rattle.marshal_read.specs.Scopes.{reference_in, part_in}
 use Rattle.marshal_read.proofs.Leading.{Symbols, Holds, Leads, Keeps, next_leads, weaker, so_leads, gives_leads, refuses_leads, must_leads, must_keeps, byte_keeps, bytes_keeps, long_keeps, context_keeps, context_leads, becomes_leads, within_keeps, EitherWay, rounds_lead, here_then, count_keeps, string_keeps, pair_count_keeps, count_nodes_keeps}
@@ -355,21 +355,21 @@ pub version_tame : Tame D.version
 version_tame = next_leads byte_keeps (λ major. must_leads (λ _. next_leads byte_keeps (λ minor. must_keeps)))
 
 -- what was read, by what the reader says of it
-pub read_leads : {A : Type 0} {P : A → Symbols → Type 0} {g : Grammar A} → Leads (All IsUtf8) g P → (s t : State) (x : A) → reading g s ≡ Ok (x, t.seen, t.rest) → Named s → P x t.seen.symbols
+pub read_leads : {A : Type 0} {P : A → Symbols → Type 0} {g : Grammar A} → Leads (All IsUtf8) g P → (s t : State) (x : A) → read_at g s ≡ Ok (x, t.seen, t.rest) → Named s → P x t.seen.symbols
 read_leads {P = P} h s t x e n = subst (Holds P) e (h.so s.seen s.rest n)
 
 pub part_tame : (nested : Bool) (room : ℕ) → Tame (part_in nested room)
 part_tame nested room = value_tame (reference_in nested) room
 
 -- the class that was read
-pub class_utf8 : (s t : State) (x c : List ℕ) → reading G.name s ≡ Ok (x, t.seen, t.rest) → c ≡ x → Named s → IsUtf8 c
+pub class_utf8 : (s t : State) (x c : List ℕ) → read_at G.name s ≡ Ok (x, t.seen, t.rest) → c ≡ x → Named s → IsUtf8 c
 class_utf8 s t x c e f n = subst IsUtf8 (sym f) (read_leads name_named s t x e n).1
 
 -- one node is counted, and an object begins
-pub opened_named : (at : ℕ) (b c e : State) → reading (count_nodes at 1) b ≡ Ok (tt, c.seen, c.rest) → e ≡ record c { seen = begin_object c.seen } → Named b → Named e
+pub opened_named : (at : ℕ) (b c e : State) → read_at (count_nodes at 1) b ≡ Ok (tt, c.seen, c.rest) → e ≡ record c { seen = begin_object c.seen } → Named b → Named e
 opened_named at b c e h k n = subst Named (sym k) (read_leads (count_nodes_keeps at 1) b c tt h n)
 
 -- a count before
-pub begun_named : {size : Grammar ℕ} → Tame size → (at n : ℕ) (a b c e : State) → reading size a ≡ Ok (n, b.seen, b.rest) → reading (count_nodes at 1) b ≡ Ok (tt, c.seen, c.rest)
+pub begun_named : {size : Grammar ℕ} → Tame size → (at n : ℕ) (a b c e : State) → read_at size a ≡ Ok (n, b.seen, b.rest) → read_at (count_nodes at 1) b ≡ Ok (tt, c.seen, c.rest)
     → e ≡ record c { seen = begin_object c.seen } → Named a → Named e
 begun_named h at n a b c e r k l m = opened_named at b c e k l (read_leads h a b n r m)

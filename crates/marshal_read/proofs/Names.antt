@@ -12,7 +12,7 @@ use Rattle.marshal_grammar.specs.Grammar.{must, becomes, gives, ◌>>=◌, ◌>>
 use Rattle.marshal_grammar.specs.Reading.{read}
 use Rattle.marshal_read.proofs.Followed.{then_ok, then_err, fails_as}
 use Rattle.marshal_read.specs.State.{State}
-use Rattle.marshal_read.specs.Fails.{Fails, reading}
+use Rattle.marshal_read.specs.Fails.{Fails, read_at}
 
 not_utf8 : (b : List ℕ) (v : Bool) → is_utf8 b ≡ v → (IsUtf8 b → ⊥) → false ≡ is_utf8 b
 not_utf8 b true e h = absurd (h (IsUtf8-from_is_utf8 b e))
@@ -22,9 +22,9 @@ pub is_ok-utf8 : {T E : Type 0} (P : T → Type 0) (Q : E → Type 0) (r : Resul
 is_ok-utf8 P Q (Ok x) b h = sym (is_utf8-from_IsUtf8 b h.1)
 is_ok-utf8 P Q (Err e) b h = not_utf8 b (is_utf8 b) refl h.0
 
-pub marked_symbol_fails : (r : ReadError) (at : ℕ) (s : List ℕ) (a b c : State) → reading string a ≡ Ok (s, b.seen, b.rest) → c ≡ record b { seen = add_symbol s b.seen } → Fails r (reading (encoding at) c) → Fails r (reading (marked_symbol at) a)
+pub marked_symbol_fails : (r : ReadError) (at : ℕ) (s : List ℕ) (a b c : State) → read_at string a ≡ Ok (s, b.seen, b.rest) → c ≡ record b { seen = add_symbol s b.seen } → Fails r (read_at (encoding at) c) → Fails r (read_at (marked_symbol at) a)
 marked_symbol_fails r at s a b c e f =
-    fails_as r (reading (encoding at) c) (reading (marked_symbol at) a)
-    (λ q h. let k : read (encoding at) (add_symbol s b.seen) b.rest ≡ Err q = subst (λ (t : State). reading (encoding at) t ≡ Err q) f h in
-    then_ok (reading string a) (λ x. read (becomes (add_symbol x) >> (encoding at >>= (λ code. must (is_name x code) why.Name at >> gives x)))) s b.seen b.rest e
+    fails_as r (read_at (encoding at) c) (read_at (marked_symbol at) a)
+    (λ q h. let k : read (encoding at) (add_symbol s b.seen) b.rest ≡ Err q = subst (λ (t : State). read_at (encoding at) t ≡ Err q) f h in
+    then_ok (read_at string a) (λ x. read (becomes (add_symbol x) >> (encoding at >>= (λ code. must (is_name x code) why.Name at >> gives x)))) s b.seen b.rest e
     ∙ then_err (read (encoding at) (add_symbol s b.seen) b.rest) (λ code. read (must (is_name s code) why.Name at >> gives s)) q k)

@@ -15,54 +15,54 @@ use Rattle.marshal_grammar.specs.Grammar.{byte}
 use Rattle.marshal_grammar.specs.Reading.{read, refuse}
 use Rattle.marshal_grammar.specs.Values.{value, body, typed, too_deep}
 use Rattle.marshal_read.specs.State.{State}
-use Rattle.marshal_read.specs.Fails.{Fails, reading}
+use Rattle.marshal_read.specs.Fails.{Fails, read_at}
 use Rattle.marshal_read.specs.Scopes.{reference_in, part_in, given}
 use Rattle.marshal_read.proofs.Followed.{then_ok, then_err, fails_as}
 
 -- with a level left, a value is its body
-pub opened : (nested : Bool) (room b : ℕ) (k : Kind) (at : ℕ) (s t : State) → (room ≡ 0 → ⊥) → at ≡ s.seen.at → reading byte s ≡ Ok (b, t.seen, t.rest) → Some k ≡ kind_of b
-    → reading (part_in nested room) s ≡ reading (body (reference_in nested) (part_in nested (room - 1)) (suc (room - 1)) k at) t
+pub opened : (nested : Bool) (room b : ℕ) (k : Kind) (at : ℕ) (s t : State) → (room ≡ 0 → ⊥) → at ≡ s.seen.at → read_at byte s ≡ Ok (b, t.seen, t.rest) → Some k ≡ kind_of b
+    → read_at (part_in nested room) s ≡ read_at (body (reference_in nested) (part_in nested (room - 1)) (suc (room - 1)) k at) t
 unfolding value
 opened nested zero b k at s t h a e f = absurd (h refl)
 opened nested (suc room) b k at s t h a e f =
     let r : room ≡ suc room - 1 = omega arith in
-    then_ok (reading byte s) (λ x. read (typed (body (reference_in nested) (value (reference_in nested) room) (suc room)) s.seen.at x (kind_of x))) b t.seen t.rest e
+    then_ok (read_at byte s) (λ x. read (typed (body (reference_in nested) (value (reference_in nested) room) (suc room)) s.seen.at x (kind_of x))) b t.seen t.rest e
     ∙ ap (λ (o : Option Kind). read (typed (body (reference_in nested) (value (reference_in nested) room) (suc room)) s.seen.at b o) t.seen t.rest) (sym f)
-    ∙ ap (λ (n : ℕ). reading (body (reference_in nested) (part_in nested n) (suc n) k s.seen.at) t) r
-    ∙ ap (λ (n : ℕ). reading (body (reference_in nested) (part_in nested (suc room - 1)) (suc (suc room - 1)) k n) t) (sym a)
+    ∙ ap (λ (n : ℕ). read_at (body (reference_in nested) (part_in nested n) (suc n) k s.seen.at) t) r
+    ∙ ap (λ (n : ℕ). read_at (body (reference_in nested) (part_in nested (suc room - 1)) (suc (suc room - 1)) k n) t) (sym a)
 
 -- with none left, it is too deep
-pub closed : (nested : Bool) (room b : ℕ) (k : Kind) (at : ℕ) (s t : State) → room ≡ 0 → at ≡ s.seen.at → reading byte s ≡ Ok (b, t.seen, t.rest) → Some k ≡ kind_of b
-    → reading (part_in nested room) s ≡ reading (too_deep k at) t
+pub closed : (nested : Bool) (room b : ℕ) (k : Kind) (at : ℕ) (s t : State) → room ≡ 0 → at ≡ s.seen.at → read_at byte s ≡ Ok (b, t.seen, t.rest) → Some k ≡ kind_of b
+    → read_at (part_in nested room) s ≡ read_at (too_deep k at) t
 unfolding value
 closed nested (suc room) b k at s t h a e f = absurd (omega arith)
 closed nested zero b k at s t h a e f =
-    then_ok (reading byte s) (λ x. read (typed too_deep s.seen.at x (kind_of x))) b t.seen t.rest e
+    then_ok (read_at byte s) (λ x. read (typed too_deep s.seen.at x (kind_of x))) b t.seen t.rest e
     ∙ ap (λ (o : Option Kind). read (typed too_deep s.seen.at b o) t.seen t.rest) (sym f)
-    ∙ ap (λ (n : ℕ). reading (too_deep k n) t) (sym a)
+    ∙ ap (λ (n : ℕ). read_at (too_deep k n) t) (sym a)
 
 -- no type byte
-pub untyped : (nested : Bool) (room b at : ℕ) (s t : State) → at ≡ s.seen.at → reading byte s ≡ Ok (b, t.seen, t.rest) → None ≡ kind_of b
-    → reading (part_in nested room) s ≡ refuse (why.BadType b) at
+pub untyped : (nested : Bool) (room b at : ℕ) (s t : State) → at ≡ s.seen.at → read_at byte s ≡ Ok (b, t.seen, t.rest) → None ≡ kind_of b
+    → read_at (part_in nested room) s ≡ refuse (why.BadType b) at
 unfolding value
 untyped nested zero b at s t a e f =
-    then_ok (reading byte s) (λ x. read (typed too_deep s.seen.at x (kind_of x))) b t.seen t.rest e
+    then_ok (read_at byte s) (λ x. read (typed too_deep s.seen.at x (kind_of x))) b t.seen t.rest e
     ∙ ap (λ (o : Option Kind). read (typed too_deep s.seen.at b o) t.seen t.rest) (sym f)
     ∙ ap (λ (n : ℕ). refuse (why.BadType b) n) (sym a)
 untyped nested (suc room) b at s t a e f =
-    then_ok (reading byte s) (λ x. read (typed (body (reference_in nested) (value (reference_in nested) room) (suc room)) s.seen.at x (kind_of x))) b t.seen t.rest e
+    then_ok (read_at byte s) (λ x. read (typed (body (reference_in nested) (value (reference_in nested) room) (suc room)) s.seen.at x (kind_of x))) b t.seen t.rest e
     ∙ ap (λ (o : Option Kind). read (typed (body (reference_in nested) (value (reference_in nested) room) (suc room)) s.seen.at b o) t.seen t.rest) (sym f)
     ∙ ap (λ (n : ℕ). refuse (why.BadType b) n) (sym a)
 
 -- no byte
-pub missing : (r : ReadError) (nested : Bool) (room : ℕ) (s : State) → Fails r (reading byte s) → Fails r (reading (part_in nested room) s)
+pub missing : (r : ReadError) (nested : Bool) (room : ℕ) (s : State) → Fails r (read_at byte s) → Fails r (read_at (part_in nested room) s)
 unfolding value
 missing r nested zero s f =
-    fails_as r (reading byte s) (reading (part_in nested 0) s)
-    (λ q e. then_err (reading byte s) (λ x. read (typed too_deep s.seen.at x (kind_of x))) q e) f
+    fails_as r (read_at byte s) (read_at (part_in nested 0) s)
+    (λ q e. then_err (read_at byte s) (λ x. read (typed too_deep s.seen.at x (kind_of x))) q e) f
 missing r nested (suc room) s f =
-    fails_as r (reading byte s) (reading (part_in nested (suc room)) s)
-    (λ q e. then_err (reading byte s) (λ x. read (typed (body (reference_in nested) (value (reference_in nested) room) (suc room)) s.seen.at x (kind_of x))) q e) f
+    fails_as r (read_at byte s) (read_at (part_in nested (suc room)) s)
+    (λ q e. then_err (read_at byte s) (λ x. read (typed (body (reference_in nested) (value (reference_in nested) room) (suc room)) s.seen.at x (kind_of x))) q e) f
 
 given_some : (o : Option Remote) (d : Context) (rest : List ℕ) → given (read (some_remote o) d rest) ≡ o
 given_some None d rest = refl

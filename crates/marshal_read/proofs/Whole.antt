@@ -16,7 +16,7 @@ use Rattle.marshal_read.specs.declared.error.ReadError.TheVariants as error
 use Rattle.marshal_read.specs.State.{State}
 use Rattle.marshal_read.specs.Scopes.{reference_in}
 use Rattle.marshal_read.proofs.Loops.{fails_same}
-use Rattle.marshal_read.specs.Fails.{Fails, reading}
+use Rattle.marshal_read.specs.Fails.{Fails, read_at}
 use Rattle.marshal_read.specs.Dumps.{DumpOf}
 
 -- a dump is read with references
@@ -83,13 +83,13 @@ so_every_refusal bs (Ok x) h w at k =
 abbrev pub start : List ℕ → State
 start bs = record { rest = bs; seen = opening; steps = []; refused = record { why = why.Short; at = 0 } }
 
-read_whole : (bs : List ℕ) (s : State) → s ≡ start bs → dump_of bs ≡ reading (dump_with (reference_in false)) s
-read_whole bs s h = dump_is bs ∙ sym (ap (λ (z : State). reading (dump_with reference) z) h)
+read_whole : (bs : List ℕ) (s : State) → s ≡ start bs → dump_of bs ≡ read_at (dump_with (reference_in false)) s
+read_whole bs s h = dump_is bs ∙ sym (ap (λ (z : State). read_at (dump_with reference) z) h)
 
-pub so_err : (bs : List ℕ) (s : State) (e : ReadError) → s ≡ start bs → Fails e (reading (dump_with (reference_in false)) s) → So bs (Err e)
-so_err bs s e h f = fails_same e (dump_of bs) (reading (dump_with (reference_in false)) s) (read_whole bs s h) f
+pub so_err : (bs : List ℕ) (s : State) (e : ReadError) → s ≡ start bs → Fails e (read_at (dump_with (reference_in false)) s) → So bs (Err e)
+so_err bs s e h f = fails_same e (dump_of bs) (read_at (dump_with (reference_in false)) s) (read_whole bs s h) f
 
-pub so_done : (bs : List ℕ) (s t : State) (v w : Tree) (left : ℕ) → s ≡ start bs → reading (dump_with (reference_in false)) s ≡ Ok (v, t.seen, t.rest) → w ≡ v → left ≡ length t.rest → So bs (Ok (w, length bs - left))
+pub so_done : (bs : List ℕ) (s t : State) (v w : Tree) (left : ℕ) → s ≡ start bs → read_at (dump_with (reference_in false)) s ≡ Ok (v, t.seen, t.rest) → w ≡ v → left ≡ length t.rest → So bs (Ok (w, length bs - left))
 so_done bs s t v w left h e k l = (
   t.seen,
   t.rest,
@@ -97,7 +97,7 @@ so_done bs s t v w left h e k l = (
   ap (λ (n : ℕ). length bs - n) l,
 )
 
-pub left_within : (bs : List ℕ) (s t : State) (v : Tree) (left : ℕ) → s ≡ start bs → reading (dump_with (reference_in false)) s ≡ Ok (v, t.seen, t.rest) → left ≡ length t.rest → left ≤ length bs
+pub left_within : (bs : List ℕ) (s t : State) (v : Tree) (left : ℕ) → s ≡ start bs → read_at (dump_with (reference_in false)) s ≡ Ok (v, t.seen, t.rest) → left ≡ length t.rest → left ≤ length bs
 left_within bs s t v left h e l =
     let f = (reads_dumps bs t.rest v t.seen).0 (read_whole bs s h ∙ e) in
     omega (arith, l, ap length f.2, length-append f.0 t.rest)

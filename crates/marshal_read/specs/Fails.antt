@@ -15,8 +15,8 @@ Fails error.Memory r = Unit {0}
 Fails (error.Refused f) r = r ≡ Err f
 
 -- what a piece of the grammar gives from here
-abbrev pub reading : {A : Type 0} → Grammar A → State → Read A
-reading g s = read g s.seen s.rest
+abbrev pub read_at : {A : Type 0} → Grammar A → State → Read A
+read_at g s = read g s.seen s.rest
 
 -- the error of a stop, after this refusal
 abbrev pub error_of : Stop → Refusal → ReadError

@@ -2,8 +2,9 @@ pub mod State
 pub mod Making
 pub mod View
 pub mod Fails
+pub mod Gives
 pub mod Rounds
 pub mod Links
 pub mod Scopes
 pub mod Dumps
-pub mod Kept
+pub mod Forms

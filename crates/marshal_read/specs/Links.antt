@@ -7,8 +7,8 @@ use Rattle.marshal_grammar.specs.Grammar.{Grammar, gives, must, ◌>>◌}
 use Rattle.marshal_grammar.specs.Counts.{count_nodes}
 
 -- the copy fits into the levels that are left, and counts its nodes
-abbrev pub fits : ℕ → ℕ → Tree → Grammar Tree
-fits room at v = do
+abbrev pub counted_copy : ℕ → ℕ → Tree → Grammar Tree
+counted_copy room at v = do
   must (nat_le (depth v) room) why.TooDeep at
   count_nodes at (nodes v)
   gives v

@@ -22,12 +22,12 @@ abbrev pub single : Tree → Made
 single t = record { values = t ∷ []; pairs = []; fields = [] }
 
 -- all but the last n
-abbrev pub front : {A : Type 0} → ℕ → List A → List A
-front n xs = take (length xs - n) xs
+abbrev pub without_last : {A : Type 0} → ℕ → List A → List A
+without_last n xs = take (length xs - n) xs
 
 -- the last n
-abbrev pub back : {A : Type 0} → ℕ → List A → List A
-back n xs = drop (length xs - n) xs
+abbrev pub the_last : {A : Type 0} → ℕ → List A → List A
+the_last n xs = drop (length xs - n) xs
 
 -- the last value, nil where there is none
 abbrev pub last : List Tree → Tree
@@ -41,14 +41,14 @@ put t m = record m { values = m.values ++ (t ∷ []) }
 
 -- with a value in place of the last one
 abbrev pub put_for_last : Tree → Made → Made
-put_for_last t m = record m { values = front 1 m.values ++ (t ∷ []) }
+put_for_last t m = record m { values = without_last 1 m.values ++ (t ∷ []) }
 
 -- with a value in place of the last n pairs, fields
 abbrev pub put_for_pairs : ℕ → Tree → Made → Made
-put_for_pairs n t m = record m { values = m.values ++ (t ∷ []); pairs = front n m.pairs }
+put_for_pairs n t m = record m { values = m.values ++ (t ∷ []); pairs = without_last n m.pairs }
 
 abbrev pub put_for_fields : ℕ → Tree → Made → Made
-put_for_fields n t m = record m { values = m.values ++ (t ∷ []); fields = front n m.fields }
+put_for_fields n t m = record m { values = m.values ++ (t ∷ []); fields = without_last n m.fields }
 
 -- what there is after a step
 abbrev pub after : Made → Step → Made
@@ -59,34 +59,49 @@ after m (S.Sym s) = put (sym s) m
 after m (S.Text s code) = put (text s code) m
 after m (S.Class s) = put (class s) m
 after m (S.Module s) = put (module_named s) m
-after m (S.List n) = record m { values = front n m.values ++ (list (back n m.values) ∷ []) }
-after m S.Pair = record m { values = front 1 (front 1 m.values); pairs = m.pairs ++ ((last (front 1 m.values), last m.values) ∷ []) }
-after m (S.Field s) = record m { values = front 1 m.values; fields = m.fields ++ ((s, last m.values) ∷ []) }
-after m (S.Hash n) = put_for_pairs n (hash (back n m.pairs) None) m
-after m (S.HashWithDefault n) = record m { values = front 1 m.values ++ (hash (back n m.pairs) (Some (last m.values)) ∷ []); pairs = front n m.pairs }
-after m (S.Object c n) = put_for_fields n (object c (back n m.fields)) m
-after m (S.Struct c n) = put_for_fields n (structure c (back n m.fields)) m
-after m (S.Dumped r n) = put_for_fields n (dumped r.class r.bytes (back n m.fields)) m
+after m (S.List n) = record m {
+  values = without_last n m.values ++ (list (the_last n m.values) ∷ []);
+}
+after m S.Pair = record m {
+  values = without_last 1 (without_last 1 m.values);
+  pairs = m.pairs ++ ((last (without_last 1 m.values), last m.values) ∷ []);
+}
+after m (S.Field s) = record m {
+  values = without_last 1 m.values;
+  fields = m.fields ++ ((s, last m.values) ∷ []);
+}
+after m (S.Hash n) = put_for_pairs n (hash (the_last n m.pairs) None) m
+after m (S.HashWithDefault n) = record m {
+  values = without_last 1 m.values ++ (hash (the_last n m.pairs) (Some (last m.values)) ∷ []);
+  pairs = without_last n m.pairs;
+}
+after m (S.Object c n) = put_for_fields n (object c (the_last n m.fields)) m
+after m (S.Struct c n) = put_for_fields n (structure c (the_last n m.fields)) m
+after m (S.Dumped r n) = put_for_fields n (dumped r.class r.bytes (the_last n m.fields)) m
 after m (S.Remote r) = put (remote r) m
-after m (S.Forget n) = record m { fields = front n m.fields }
+after m (S.Forget n) = record m { fields = without_last n m.fields }
 after m (S.Wrapped c) = put_for_last (wrapped c (last m.values)) m
 
 -- a step finds what it takes, what it makes of that is a value, and its name is UTF-8
-abbrev pub Fits : Made → Step → Type 0
-Fits m (S.Sym s) = IsUtf8 s
-Fits m (S.Class s) = IsUtf8 s
-Fits m (S.Module s) = IsUtf8 s
-Fits m (S.List n) = n ≤ length m.values
-Fits m S.Pair = 2 ≤ length m.values
-Fits m (S.Field s) = (1 ≤ length m.values) × IsUtf8 s
-Fits m (S.Hash n) = (n ≤ length m.pairs) × IsTrue (keys_distinct (back n m.pairs))
-Fits m (S.HashWithDefault n) = (1 ≤ length m.values) × (n ≤ length m.pairs) × IsTrue (keys_distinct (back n m.pairs))
-Fits m (S.Object c n) = (n ≤ length m.fields) × IsTrue (names_distinct (back n m.fields)) × IsUtf8 c
-Fits m (S.Struct c n) = (n ≤ length m.fields) × IsTrue (names_distinct (back n m.fields)) × IsUtf8 c
-Fits m (S.Dumped r n) = (n ≤ length m.fields) × (r.class ≡ remote_class → ⊥) × IsTrue (names_distinct (back n m.fields)) × IsUtf8 r.class
-Fits m (S.Forget n) = n ≤ length m.fields
-Fits m (S.Wrapped c) = (1 ≤ length m.values) × IsUtf8 c
-Fits m _ = Unit {0}
+abbrev pub Applies : Made → Step → Type 0
+Applies m (S.Sym s) = IsUtf8 s
+Applies m (S.Class s) = IsUtf8 s
+Applies m (S.Module s) = IsUtf8 s
+Applies m (S.List n) = n ≤ length m.values
+Applies m S.Pair = 2 ≤ length m.values
+Applies m (S.Field s) = (1 ≤ length m.values) × IsUtf8 s
+Applies m (S.Hash n) = (n ≤ length m.pairs) × IsTrue (keys_distinct (the_last n m.pairs))
+Applies m (S.HashWithDefault n) = (1 ≤ length m.values) × (n ≤ length m.pairs)
+    × IsTrue (keys_distinct (the_last n m.pairs))
+Applies m (S.Object c n) = (n ≤ length m.fields) × IsTrue (names_distinct (the_last n m.fields))
+    × IsUtf8 c
+Applies m (S.Struct c n) = (n ≤ length m.fields) × IsTrue (names_distinct (the_last n m.fields))
+    × IsUtf8 c
+Applies m (S.Dumped r n) = (n ≤ length m.fields) × (r.class ≡ remote_class → ⊥)
+    × IsTrue (names_distinct (the_last n m.fields)) × IsUtf8 r.class
+Applies m (S.Forget n) = n ≤ length m.fields
+Applies m (S.Wrapped c) = (1 ≤ length m.values) × IsUtf8 c
+Applies m _ = Unit {0}
 
 -- a step that takes nothing, and whose name is UTF-8
 abbrev pub Leaf : Step → Type 0
@@ -110,10 +125,14 @@ abbrev pub after_all : Made → List Step → Made
 after_all m [] = m
 after_all m (s ∷ ss) = after_all (after m s) ss
 
--- each of these steps fits
-abbrev pub AllFit : Made → List Step → Type 0
-AllFit m [] = Unit {0}
-AllFit m (s ∷ ss) = Fits m s × AllFit (after m s) ss
+-- each of these steps applies
+abbrev pub AllApply : Made → List Step → Type 0
+AllApply m [] = Unit {0}
+AllApply m (s ∷ ss) = Applies m s × AllApply (after m s) ss
+
+-- the steps from an index on, and this one
+abbrev pub ended_by : ℕ → Step → List Step → List Step
+ended_by start s ss = drop start ss ++ (s ∷ [])
 
 -- what these steps make on their own
 abbrev pub made : List Step → Made
@@ -125,7 +144,7 @@ value_of ss = last (made ss).values
 
 -- on their own they make this, and nothing else
 pub record Makes (ss : List Step) (m : Made) : Type 0 where
-  pub fit : AllFit nothing ss
+  pub apply : AllApply nothing ss
   pub is : made ss ≡ m
 
 -- they make one value
@@ -162,19 +181,19 @@ fields_in old new = (made (since old new)).fields
 -- these steps make n fields, and nothing else; no name stands twice
 pub record HoldsFields (ss : List Step) (n : ℕ) : Type 0 where
   pub makes : Makes ss (record { values = []; pairs = []; fields = (made ss).fields })
-  pub count : length (made ss).fields ≡ n
+  pub size : length (made ss).fields ≡ n
   pub distinct : IsTrue (names_distinct (made ss).fields)
 
 -- these steps make n pairs, and nothing else; no key is the same as an earlier one
 pub record HoldsPairs (ss : List Step) (n : ℕ) : Type 0 where
   pub makes : Makes ss (record { values = []; pairs = (made ss).pairs; fields = [] })
-  pub count : length (made ss).pairs ≡ n
+  pub size : length (made ss).pairs ≡ n
   pub distinct : IsTrue (keys_distinct (made ss).pairs)
 
 -- these steps make n values, and nothing else
 pub record HoldsValues (ss : List Step) (n : ℕ) : Type 0 where
   pub makes : Makes ss (record { values = (made ss).values; pairs = []; fields = [] })
-  pub count : length (made ss).values ≡ n
+  pub size : length (made ss).values ≡ n
 
 -- further steps were added behind, which make n values, pairs or fields
 pub record AddsValues (old new : List Step) (n : ℕ) : Type 0 where

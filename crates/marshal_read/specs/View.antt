@@ -7,7 +7,12 @@ use Rattle.marshal_read.specs.Making.{objects_at, ObjectsStand}
 abbrev pub state_of : Inside → State
 state_of a = record {
   rest = a.rest.now;
-  seen = record { at = a.at; symbols = a.symbols; objects = objects_at a.steps a.objects; nodes = a.nodes };
+  seen = record {
+    at = a.at;
+    symbols = a.symbols;
+    objects = objects_at a.steps a.objects;
+    nodes = a.nodes;
+  };
   steps = a.steps;
   refused = a.refused;
 }

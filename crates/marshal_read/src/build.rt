@@ -1,9 +1,8 @@
 //! The value that steps make.
 
-ghost use Rattle.std.specs.Prelude.{◌≡◌, ℕ, ◌≤◌, List, [], ◌∷◌, ◌++◌, length, Some, None, IfOk, OnOk, IsTrue, IsUtf8};
-ghost use Rattle.drb_tree.specs.Kept.{keys_distinct, names_distinct, remote_class};
-ghost use Rattle.marshal_grammar.specs.Trees.{hash, object, structure, dumped, wrapped};
-ghost use Rattle.marshal_read.specs.Making.{Made, nothing, front, back, last, put, after, Fits, AllFit, value_of};
+ghost use Rattle.std.specs.Prelude.{◌≡◌, ℕ, ◌≤◌, [], ◌∷◌, ◌++◌, length, None, IfOk, OnOk, IsTrue, IsUtf8};
+ghost use Rattle.drb_tree.specs.Kept.{names_distinct};
+ghost use Rattle.marshal_read.specs.Making.{Made, nothing, without_last, the_last, last, put, after, Applies, AllApply, value_of};
 
 use crate::span::Span;
 use crate::steps::{Raw, Step};
@@ -28,12 +27,16 @@ impl Model for Parts {
 
     ghost coded = { Prim.hlevel (codes, e.the_row.coded) };
 
-    ghost view = { λ a. record { values = a.values.items; pairs = a.pairs.items; fields = a.fields.items } };
+    ghost view = { λ a. record {
+      values = a.values.items;
+      pairs = a.pairs.items;
+      fields = a.fields.items;
+    } };
 }
 
 /// The value that these steps make.
 pub fn built(alloc: Global, steps: &[Step]) -> Result<Value, AllocError>
-    requires { AllFit nothing steps.now }
+    requires { AllApply nothing steps.now }
     ensures { IfOk result (λ v. v ≡ value_of steps.now) }
 {
     let mut parts = Parts::new(alloc);
@@ -46,8 +49,8 @@ pub fn built(alloc: Global, steps: &[Step]) -> Result<Value, AllocError>
 /// The last `n` of these, which leave them.
 fn split<T>(items: &mut Vec<T>, n: usize) -> Result<Items<T>, AllocError>
     requires { n ≤ length items.old.items }
-    ensures rest { OnOk result (items.new.items ≡ front n items.old.items) }
-    ensures these { IfOk result (λ them. them ≡ back n items.old.items) }
+    ensures rest { OnOk result (items.new.items ≡ without_last n items.old.items) }
+    ensures these { IfOk result (λ them. them ≡ the_last n items.old.items) }
 {
     let at = items.len() - n;
     Ok(Items::from_vec(items.split_off(at)?))
@@ -94,7 +97,7 @@ impl Parts {
 
     /// Takes a step. What makes a part is out of line, so that the loop over the steps has few words of its own to clear.
     fn take(&mut self, alloc: Global, step: &Step) -> Result<(), AllocError>
-        requires { Fits self.old step.now }
+        requires { Applies self.old step.now }
         ensures { OnOk result (self.new ≡ after self.old step.now) }
     {
         match step {
@@ -130,7 +133,7 @@ impl Parts {
     fn last(&mut self) -> Value
         requires { 1 ≤ length self.old.values }
         ensures value { result ≡ last self.old.values }
-        ensures rest { self.new ≡ record self.old { values = front 1 self.old.values } }
+        ensures rest { self.new ≡ record self.old { values = without_last 1 self.old.values } }
     {
         match self.values.pop() {
             Some(value) => value,
@@ -203,7 +206,7 @@ impl Parts {
 
     #[inline(never)]
     fn field(&mut self, alloc: Global, name: &Span) -> Result<(), AllocError>
-        requires { (1 ≤ length self.old.values) × IsUtf8 name.now }
+        requires { Applies self.old (Step.Field name.now) }
         ensures { OnOk result (self.new ≡ after self.old (Step.Field name.now)) }
     {
         let name = name_of(alloc, name)?;
@@ -214,9 +217,11 @@ impl Parts {
 
     /// The last `n` pairs, which leave the others, and this default.
     fn pairs(&mut self, n: usize) -> Result<Pairs, AllocError>
-        requires { (n ≤ length self.old.pairs) × IsTrue (keys_distinct (back n self.old.pairs)) }
-        ensures pairs { IfOk result (λ ps. ps ≡ (back n self.old.pairs, None)) }
-        ensures rest { OnOk result (self.new ≡ record self.old { pairs = front n self.old.pairs }) }
+        requires { Applies self.old (Step.Hash n) }
+        ensures pairs { IfOk result (λ ps. ps ≡ (the_last n self.old.pairs, None)) }
+        ensures rest { OnOk result (self.new ≡ record self.old {
+          pairs = without_last n self.old.pairs;
+        }) }
     {
         let pairs = split(&mut self.pairs, n)?;
         Ok(Pairs {
@@ -227,7 +232,7 @@ impl Parts {
 
     #[inline(never)]
     fn hash(&mut self, n: usize) -> Result<(), AllocError>
-        requires { (n ≤ length self.old.pairs) × IsTrue (keys_distinct (back n self.old.pairs)) }
+        requires { Applies self.old (Step.Hash n) }
         ensures { OnOk result (self.new ≡ after self.old (Step.Hash n)) }
     {
         let pairs = self.pairs(n)?;
@@ -236,7 +241,7 @@ impl Parts {
 
     #[inline(never)]
     fn hash_with_default(&mut self, alloc: Global, n: usize) -> Result<(), AllocError>
-        requires { (1 ≤ length self.old.values) × (n ≤ length self.old.pairs) × IsTrue (keys_distinct (back n self.old.pairs)) }
+        requires { Applies self.old (Step.HashWithDefault n) }
         ensures { OnOk result (self.new ≡ after self.old (Step.HashWithDefault n)) }
     {
         let pairs = self.pairs(n)?;
@@ -246,9 +251,12 @@ impl Parts {
 
     /// The last `n` fields, which leave the others.
     fn fields(&mut self, n: usize) -> Result<FieldList, AllocError>
-        requires { (n ≤ length self.old.fields) × IsTrue (names_distinct (back n self.old.fields)) }
-        ensures fields { IfOk result (λ fs. fs ≡ back n self.old.fields) }
-        ensures rest { OnOk result (self.new ≡ record self.old { fields = front n self.old.fields }) }
+        requires { (n ≤ length self.old.fields)
+            × IsTrue (names_distinct (the_last n self.old.fields)) }
+        ensures fields { IfOk result (λ fs. fs ≡ the_last n self.old.fields) }
+        ensures rest { OnOk result (self.new ≡ record self.old {
+          fields = without_last n self.old.fields;
+        }) }
     {
         let list = split(&mut self.fields, n)?;
         Ok(FieldList { list })
@@ -256,7 +264,7 @@ impl Parts {
 
     #[inline(never)]
     fn object(&mut self, alloc: Global, class: &Span, n: usize) -> Result<(), AllocError>
-        requires { (n ≤ length self.old.fields) × IsTrue (names_distinct (back n self.old.fields)) × IsUtf8 class.now }
+        requires { Applies self.old (Step.Object class.now n) }
         ensures { OnOk result (self.new ≡ after self.old (Step.Object class.now n)) }
     {
         let class = name_of(alloc, class)?;
@@ -266,7 +274,7 @@ impl Parts {
 
     #[inline(never)]
     fn structure(&mut self, alloc: Global, class: &Span, n: usize) -> Result<(), AllocError>
-        requires { (n ≤ length self.old.fields) × IsTrue (names_distinct (back n self.old.fields)) × IsUtf8 class.now }
+        requires { Applies self.old (Step.Struct class.now n) }
         ensures { OnOk result (self.new ≡ after self.old (Step.Struct class.now n)) }
     {
         let class = name_of(alloc, class)?;
@@ -276,7 +284,7 @@ impl Parts {
 
     #[inline(never)]
     fn dumped(&mut self, alloc: Global, raw: &Raw, n: usize) -> Result<(), AllocError>
-        requires { (n ≤ length self.old.fields) × (raw.now.class ≡ remote_class → ⊥) × IsTrue (names_distinct (back n self.old.fields)) × IsUtf8 raw.now.class }
+        requires { Applies self.old (Step.Dumped raw.now n) }
         ensures { OnOk result (self.new ≡ after self.old (Step.Dumped raw.now n)) }
     {
         let class = name_of(alloc, &raw.class)?;
@@ -296,7 +304,7 @@ impl Parts {
 
     #[inline(never)]
     fn wrapped(&mut self, alloc: Global, class: &Span) -> Result<(), AllocError>
-        requires { (1 ≤ length self.old.values) × IsUtf8 class.now }
+        requires { Applies self.old (Step.Wrapped class.now) }
         ensures { OnOk result (self.new ≡ after self.old (Step.Wrapped class.now)) }
     {
         let class = name_of(alloc, class)?;

@@ -1,12 +1,12 @@
 //! Values, by the byte that they begin with.
 
-ghost use Rattle.std.specs.Prelude.{◌≡◌, ℕ, ◌+◌, ◌≤◌, ◌<◌, suc, length, IfOk, IfErr, OnOk, Ok, Err, false, if◌then◌else◌};
+ghost use Rattle.std.specs.Prelude.{◌≡◌, ℕ, ◌+◌, ◌≤◌, ◌<◌, suc, IfOk, IfErr, OnOk, false, if◌then◌else◌};
 ghost use Rattle.marshal_grammar.specs.Contexts.{opening};
-ghost use Rattle.marshal_grammar.specs.Kinds.{kind_of};
 ghost use Rattle.marshal_grammar.specs.Reading.{read};
 ghost use Rattle.marshal_grammar.specs.Dumps.{dump_with};
 ghost use Rattle.marshal_grammar.specs.Values.{body, list_value, hash_value, default_hash_value, fields_value, wrapped_value, marked_value, marked_dumped, dumped_value, held};
-ghost use Rattle.marshal_read.specs.Fails.{Fails, reading, error_of};
+ghost use Rattle.marshal_read.specs.Gives.{GivesAs, Adds, Reached};
+ghost use Rattle.marshal_read.specs.Fails.{Fails, read_at};
 ghost use Rattle.marshal_read.specs.State.{Named};
 ghost use Rattle.marshal_read.specs.Making.{added, AddsOne};
 ghost use Rattle.marshal_read.specs.Scopes.{reference_in, part_in, given, held_is, Foreign, fields_form};
@@ -28,9 +28,7 @@ impl<'a> Reader<'a> {
     pub fn value(&mut self, alloc: Global, nested: bool, room: usize) -> Result<(), Stop>
         requires room { room ≤ 128 }
         requires named { Named self.old }
-        ensures ok { OnOk result (reading (part_in nested room) self.old ≡ Ok (added self.old.steps self.new.steps, self.new.seen, self.new.rest)) }
-        ensures adds { OnOk result (AddsOne self.old.steps self.new.steps) }
-        ensures err { IfErr result (λ e. Fails (error_of e self.new.refused) (reading (part_in nested room) self.old)) }
+        ensures { Adds (part_in nested room) self.old self.new result }
     {
         let at = self.at();
         let first = self.byte()?;
@@ -56,9 +54,9 @@ impl<'a> Reader<'a> {
     ) -> Result<(), Stop>
         requires room { room < 128 }
         requires named { Named self.old }
-        ensures ok { OnOk result (reading (body (reference_in nested) (part_in nested room) (suc room) kind at) self.old ≡ Ok (added self.old.steps self.new.steps, self.new.seen, self.new.rest)) }
-        ensures adds { OnOk result (AddsOne self.old.steps self.new.steps) }
-        ensures err { IfErr result (λ e. Fails (error_of e self.new.refused) (reading (body (reference_in nested) (part_in nested room) (suc room) kind at) self.old)) }
+        ensures { Adds
+            (body (reference_in nested) (part_in nested room) (suc room) kind at)
+            self.old self.new result }
     {
         match kind {
             Kind::Nil => self.simple(at, Step::Nil),
@@ -95,9 +93,7 @@ impl<'a> Reader<'a> {
     ) -> Result<(), Stop>
         requires room { room < 128 }
         requires named { Named self.old }
-        ensures ok { OnOk result (reading (list_value (part_in nested room) at) self.old ≡ Ok (added self.old.steps self.new.steps, self.new.seen, self.new.rest)) }
-        ensures adds { OnOk result (AddsOne self.old.steps self.new.steps) }
-        ensures err { IfErr result (λ e. Fails (error_of e self.new.refused) (reading (list_value (part_in nested room) at) self.old)) }
+        ensures { Adds (list_value (part_in nested room) at) self.old self.new result }
     {
         let n = self.count()?;
         self.count_nodes(at, 1)?;
@@ -117,9 +113,7 @@ impl<'a> Reader<'a> {
     ) -> Result<(), Stop>
         requires room { room < 128 }
         requires named { Named self.old }
-        ensures ok { OnOk result (reading (hash_value (part_in nested room) at) self.old ≡ Ok (added self.old.steps self.new.steps, self.new.seen, self.new.rest)) }
-        ensures adds { OnOk result (AddsOne self.old.steps self.new.steps) }
-        ensures err { IfErr result (λ e. Fails (error_of e self.new.refused) (reading (hash_value (part_in nested room) at) self.old)) }
+        ensures { Adds (hash_value (part_in nested room) at) self.old self.new result }
     {
         let n = self.pair_count()?;
         self.count_nodes(at, 1)?;
@@ -139,9 +133,7 @@ impl<'a> Reader<'a> {
     ) -> Result<(), Stop>
         requires room { room < 128 }
         requires named { Named self.old }
-        ensures ok { OnOk result (reading (default_hash_value (part_in nested room) at) self.old ≡ Ok (added self.old.steps self.new.steps, self.new.seen, self.new.rest)) }
-        ensures adds { OnOk result (AddsOne self.old.steps self.new.steps) }
-        ensures err { IfErr result (λ e. Fails (error_of e self.new.refused) (reading (default_hash_value (part_in nested room) at) self.old)) }
+        ensures { Adds (default_hash_value (part_in nested room) at) self.old self.new result }
     {
         let n = self.pair_count()?;
         self.count_nodes(at, 1)?;
@@ -163,9 +155,9 @@ impl<'a> Reader<'a> {
     ) -> Result<(), Stop>
         requires room { room < 128 }
         requires named { Named self.old }
-        ensures ok { OnOk result (reading (fields_value (fields_form is_struct) (part_in nested room) at) self.old ≡ Ok (added self.old.steps self.new.steps, self.new.seen, self.new.rest)) }
-        ensures adds { OnOk result (AddsOne self.old.steps self.new.steps) }
-        ensures err { IfErr result (λ e. Fails (error_of e self.new.refused) (reading (fields_value (fields_form is_struct) (part_in nested room) at) self.old)) }
+        ensures { Adds
+            (fields_value (fields_form is_struct) (part_in nested room) at)
+            self.old self.new result }
     {
         let class = Span::of(self.name(alloc)?);
         let n = self.pair_count()?;
@@ -189,9 +181,7 @@ impl<'a> Reader<'a> {
     ) -> Result<(), Stop>
         requires room { room < 128 }
         requires named { Named self.old }
-        ensures ok { OnOk result (reading (wrapped_value (part_in nested room) at) self.old ≡ Ok (added self.old.steps self.new.steps, self.new.seen, self.new.rest)) }
-        ensures adds { OnOk result (AddsOne self.old.steps self.new.steps) }
-        ensures err { IfErr result (λ e. Fails (error_of e self.new.refused) (reading (wrapped_value (part_in nested room) at) self.old)) }
+        ensures { Adds (wrapped_value (part_in nested room) at) self.old self.new result }
     {
         let class = Span::of(self.name(alloc)?);
         self.count_nodes(at, 1)?;
@@ -212,9 +202,9 @@ impl<'a> Reader<'a> {
     ) -> Result<(), Stop>
         requires room { room < 128 }
         requires named { Named self.old }
-        ensures ok { OnOk result (reading (marked_value (reference_in nested) (part_in nested room) at) self.old ≡ Ok (added self.old.steps self.new.steps, self.new.seen, self.new.rest)) }
-        ensures adds { OnOk result (AddsOne self.old.steps self.new.steps) }
-        ensures err { IfErr result (λ e. Fails (error_of e self.new.refused) (reading (marked_value (reference_in nested) (part_in nested room) at) self.old)) }
+        ensures { Adds
+            (marked_value (reference_in nested) (part_in nested room) at)
+            self.old self.new result }
     {
         let place = self.at();
         let mark = self.byte()?;
@@ -237,9 +227,9 @@ impl<'a> Reader<'a> {
     ) -> Result<(), Stop>
         requires room { room < 128 }
         requires named { Named self.old }
-        ensures ok { OnOk result (reading (marked_dumped (reference_in nested) (part_in nested room) at) self.old ≡ Ok (added self.old.steps self.new.steps, self.new.seen, self.new.rest)) }
-        ensures adds { OnOk result (AddsOne self.old.steps self.new.steps) }
-        ensures err { IfErr result (λ e. Fails (error_of e self.new.refused) (reading (marked_dumped (reference_in nested) (part_in nested room) at) self.old)) }
+        ensures { Adds
+            (marked_dumped (reference_in nested) (part_in nested room) at)
+            self.old self.new result }
     {
         let start = self.count_steps();
         let held = self.held(alloc, nested, at)?;
@@ -253,9 +243,7 @@ impl<'a> Reader<'a> {
     #[cycle(read)]
     fn dumped_value(&mut self, alloc: Global, nested: bool, at: usize) -> Result<(), Stop>
         requires { Named self.old }
-        ensures ok { OnOk result (reading (dumped_value (reference_in nested) at) self.old ≡ Ok (added self.old.steps self.new.steps, self.new.seen, self.new.rest)) }
-        ensures adds { OnOk result (AddsOne self.old.steps self.new.steps) }
-        ensures err { IfErr result (λ e. Fails (error_of e self.new.refused) (reading (dumped_value (reference_in nested) at) self.old)) }
+        ensures { Adds (dumped_value (reference_in nested) at) self.old self.new result }
     {
         let start = self.count_steps();
         let held = self.held(alloc, nested, at)?;
@@ -268,9 +256,9 @@ impl<'a> Reader<'a> {
     fn held(&mut self, alloc: Global, nested: bool, at: usize) -> Result<Held<'a>, Stop>
         requires { Named self.old }
         ensures foreign { IfOk result (λ h. Foreign h) }
-        ensures ok { IfOk result (λ h. reading (held (reference_in nested) at) self.old ≡ Ok (held_is h, self.new.seen, self.new.rest)) }
-        ensures kept { OnOk result (self.new.steps ≡ self.old.steps) }
-        ensures err { IfErr result (λ e. Fails (error_of e self.new.refused) (reading (held (reference_in nested) at) self.old)) }
+        ensures gives { GivesAs
+            (held (reference_in nested) at) (λ h. held_is h)
+            self.old self.new result }
     {
         let class = self.name(alloc)?;
         let bytes = self.string()?;
@@ -288,9 +276,7 @@ impl<'a> Reader<'a> {
     #[tactic(auto, unfolding(marshal_grammar::specs::Dumps::dump_with))]
     pub fn dump_with(&mut self, alloc: Global, nested: bool) -> Result<(), Stop>
         requires { Named self.old }
-        ensures ok { OnOk result (reading (dump_with (reference_in nested)) self.old ≡ Ok (added self.old.steps self.new.steps, self.new.seen, self.new.rest)) }
-        ensures adds { OnOk result (AddsOne self.old.steps self.new.steps) }
-        ensures err { IfErr result (λ e. Fails (error_of e self.new.refused) (reading (dump_with (reference_in nested)) self.old)) }
+        ensures { Adds (dump_with (reference_in nested)) self.old self.new result }
     {
         self.version()?;
         self.value(alloc, nested, 128)
@@ -299,9 +285,12 @@ impl<'a> Reader<'a> {
     /// A dump, with the error that a caller sees.
     pub fn dump(&mut self, alloc: Global) -> Result<(), ReadError>
         requires { Named self.old }
-        ensures ok { OnOk result (reading (dump_with (reference_in false)) self.old ≡ Ok (added self.old.steps self.new.steps, self.new.seen, self.new.rest)) }
+        ensures ok { OnOk result (Reached
+            (dump_with (reference_in false)) (added self.old.steps self.new.steps)
+            self.old self.new) }
         ensures adds { OnOk result (AddsOne self.old.steps self.new.steps) }
-        ensures err { IfErr result (λ e. Fails e (reading (dump_with (reference_in false)) self.old)) }
+        ensures err { IfErr result (λ e. Fails e
+            (read_at (dump_with (reference_in false)) self.old)) }
     {
         match self.dump_with(alloc, false) {
             Ok(()) => Ok(()),

@@ -1,9 +1,9 @@
 //! Counts and lengths.
 
-ghost use Rattle.std.specs.Prelude.{◌≡◌, ◌+◌, ◌/◌, ◌<◌, ◌≤◌, ◌^◌, length, IfOk, IfErr, OnOk, Ok, Err};
+ghost use Rattle.std.specs.Prelude.{◌≡◌, ◌+◌, ◌/◌, ◌<◌, ◌≤◌, ◌^◌, IfOk};
 ghost use Rattle.drb_tree.specs.Sizes.{heavy};
 ghost use Rattle.marshal_grammar.specs.Counts.{count, string, pair_count};
-ghost use Rattle.marshal_read.specs.Fails.{Fails, reading, error_of};
+ghost use Rattle.marshal_read.specs.Gives.{Gives, GivesBytes};
 
 use crate::error::Stop;
 use crate::reader::Reader;
@@ -13,10 +13,8 @@ impl<'a> Reader<'a> {
     /// A count or length.
     #[inline(always)]
     pub fn count(&mut self) -> Result<u64, Stop>
-        ensures ok { IfOk result (λ n. reading count self.old ≡ Ok (n, self.new.seen, self.new.rest)) }
+        ensures gives { Gives count self.old self.new result }
         ensures small { IfOk result (λ n. n < 2 ^ 63) }
-        ensures kept { OnOk result (self.new.steps ≡ self.old.steps) }
-        ensures err { IfErr result (λ e. Fails (error_of e self.new.refused) (reading count self.old)) }
     {
         let at = self.at();
         let n = self.long()?;
@@ -29,9 +27,7 @@ impl<'a> Reader<'a> {
     /// A length and so many bytes.
     #[inline(always)]
     pub fn string(&mut self) -> Result<&'a [u8], Stop>
-        ensures ok { IfOk result (λ s. reading string self.old ≡ Ok (s.now, self.new.seen, self.new.rest)) }
-        ensures kept { OnOk result (self.new.steps ≡ self.old.steps) }
-        ensures err { IfErr result (λ e. Fails (error_of e self.new.refused) (reading string self.old)) }
+        ensures { GivesBytes string self.old self.new result }
     {
         let n = self.count()?;
         self.bytes(n)
@@ -40,9 +36,7 @@ impl<'a> Reader<'a> {
     /// A count of pairs, fields or variables.
     #[inline(always)]
     pub fn pair_count(&mut self) -> Result<u64, Stop>
-        ensures ok { IfOk result (λ n. reading pair_count self.old ≡ Ok (n, self.new.seen, self.new.rest)) }
-        ensures kept { OnOk result (self.new.steps ≡ self.old.steps) }
-        ensures err { IfErr result (λ e. Fails (error_of e self.new.refused) (reading pair_count self.old)) }
+        ensures { Gives pair_count self.old self.new result }
     {
         let at = self.at();
         let n = self.count()?;

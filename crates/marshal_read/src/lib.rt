@@ -24,11 +24,9 @@ mod span;
 mod steps;
 mod symbols;
 mod tables;
-#[cfg(test)]
-mod tests;
 mod values;
 
-ghost use Rattle.std.specs.Prelude.{◌≡◌, ℕ, ◌+◌, ◌-◌, ◌<◌, ◌^◌, ◌⊎◌, length, IfOk, Ok, Err};
+ghost use Rattle.std.specs.Prelude.{◌≡◌, ℕ, ◌+◌, ◌-◌, ◌<◌, ◌^◌, ◌⊎◌, IfOk, Ok, Err};
 ghost use Rattle.drb_tree.specs.declared.Tree.{Tree};
 ghost use Rattle.marshal_grammar.specs.declared.refusal.Why.{Why};
 ghost use Rattle.marshal_grammar.specs.declared.refusal.Refusal.{Refusal};
@@ -47,9 +45,13 @@ use std::alloc::Global;
 /// Source: Ruby's marshal.c, rb_marshal_load_with_proc; docs/MARSHAL.md, Dumps.
 pub fn read_dump(alloc: Global, bytes: &[u8]) -> Result<(Value, usize), ReadError>
     ensures dump { IfOk result (λ r. DumpOf bytes.now r.0 r.1) }
-    ensures refusal { (f : Refusal) → result ≡ Err (ReadError.Refused f) → Refuses bytes.now f.why f.at }
-    ensures every_dump { (n : ℕ) (v : Tree) → DumpOf bytes.now v n → (result ≡ Ok (v, n)) ⊎ (result ≡ Err ReadError.Memory) }
-    ensures every_refusal { (why : Why) (at : ℕ) → Refuses bytes.now why at → (result ≡ Err (ReadError.Refused (record { why = why; at = at }))) ⊎ (result ≡ Err ReadError.Memory) }
+    ensures refusal { (f : Refusal) → result ≡ Err (ReadError.Refused f) →
+        Refuses bytes.now f.why f.at }
+    ensures every_dump { (n : ℕ) (v : Tree) → DumpOf bytes.now v n →
+        (result ≡ Ok (v, n)) ⊎ (result ≡ Err ReadError.Memory) }
+    ensures every_refusal { (why : Why) (at : ℕ) → Refuses bytes.now why at →
+        (result ≡ Err (ReadError.Refused (record { why = why; at = at })))
+        ⊎ (result ≡ Err ReadError.Memory) }
 {
     let mut reader = Reader::new(alloc, bytes)?;
     reader.dump(alloc)?;

@@ -1,12 +1,11 @@
 //! Links: copies of objects that are finished.
 
-ghost use Rattle.std.specs.Prelude.{◌≡◌, ℕ, ◌≤◌, ◌<◌, length, IfOk, IfErr, OnOk, Ok, Err, Some, None, option_map};
+ghost use Rattle.std.specs.Prelude.{◌≡◌, ℕ, ◌≤◌, ◌<◌, IfOk};
 ghost use Rattle.marshal_grammar.specs.declared.kind.Kind.TheVariants as kind;
-ghost use Rattle.marshal_grammar.specs.Counts.{count_nodes};
 ghost use Rattle.marshal_grammar.specs.Values.{link, too_deep, finished, object_at};
-ghost use Rattle.marshal_read.specs.Fails.{Fails, reading, error_of};
-ghost use Rattle.marshal_read.specs.Making.{value_of, cut, Stands, added, AddsOne};
-ghost use Rattle.marshal_read.specs.Links.{fits};
+ghost use Rattle.marshal_read.specs.Gives.{GivesAs, Adds};
+ghost use Rattle.marshal_read.specs.Making.{value_of, cut, Stands};
+ghost use Rattle.marshal_read.specs.Links.{counted_copy};
 
 use crate::error::Stop;
 use crate::reader::Reader;
@@ -18,9 +17,7 @@ impl<'a> Reader<'a> {
     /// After `@`: the number of a finished object, of which a copy stands here.
     pub fn link(&mut self, alloc: Global, room: usize, at: usize) -> Result<(), Stop>
         requires { room ≤ 128 }
-        ensures ok { OnOk result (reading (link room at) self.old ≡ Ok (added self.old.steps self.new.steps, self.new.seen, self.new.rest)) }
-        ensures adds { OnOk result (AddsOne self.old.steps self.new.steps) }
-        ensures err { IfErr result (λ e. Fails (error_of e self.new.refused) (reading (link room at) self.old)) }
+        ensures { Adds (link room at) self.old self.new result }
     {
         let number = self.long()?;
         let range = self.finished(number, at)?;
@@ -30,10 +27,10 @@ impl<'a> Reader<'a> {
 
     /// The steps of a finished object.
     fn finished(&mut self, number: i64, at: usize) -> Result<(usize, usize), Stop>
-        ensures ok { IfOk result (λ r. reading (finished at (object_at self.old.seen number)) self.old ≡ Ok (value_of (cut r self.new.steps), self.new.seen, self.new.rest)) }
-        ensures kept { OnOk result (self.new.steps ≡ self.old.steps) }
+        ensures gives { GivesAs
+            (finished at (object_at self.old.seen number)) (λ r. value_of (cut r self.new.steps))
+            self.old self.new result }
         ensures stands { IfOk result (λ r. Stands self.new.steps r) }
-        ensures err { IfErr result (λ e. Fails (error_of e self.new.refused) (reading (finished at (object_at self.old.seen number)) self.old)) }
     {
         match self.object(number) {
             None => Err(self.refuse(Why::ObjectLink, at)),
@@ -52,9 +49,10 @@ impl<'a> Reader<'a> {
     ) -> Result<(), Stop>
         requires room { room ≤ 128 }
         requires stands { Stands self.old.steps range }
-        ensures ok { OnOk result (reading (fits room at (value_of (cut range self.old.steps))) self.old ≡ Ok (value_of (cut range self.old.steps), self.new.seen, self.new.rest)) }
-        ensures kept { OnOk result (self.new.steps ≡ self.old.steps) }
-        ensures err { IfErr result (λ e. Fails (error_of e self.new.refused) (reading (fits room at (value_of (cut range self.old.steps))) self.old)) }
+        ensures { GivesAs
+            (counted_copy room at (value_of (cut range self.old.steps)))
+            (λ _. value_of (cut range self.old.steps))
+            self.old self.new result }
     {
         let value = self.built(alloc, range)?;
         let depth = value.depth();
@@ -68,9 +66,7 @@ impl<'a> Reader<'a> {
 
     /// No level is left: every value is too deep, and a link once its object is known.
     pub fn too_deep(&mut self, alloc: Global, kind: Kind, at: usize) -> Result<(), Stop>
-        ensures ok { OnOk result (reading (too_deep kind at) self.old ≡ Ok (added self.old.steps self.new.steps, self.new.seen, self.new.rest)) }
-        ensures adds { OnOk result (AddsOne self.old.steps self.new.steps) }
-        ensures err { IfErr result (λ e. Fails (error_of e self.new.refused) (reading (too_deep kind at) self.old)) }
+        ensures { Adds (too_deep kind at) self.old self.new result }
     {
         match kind {
             Kind::Link => self.link(alloc, 0, at),

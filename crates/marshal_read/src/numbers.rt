@@ -1,10 +1,9 @@
 //! Big integers.
 
-ghost use Rattle.std.specs.Prelude.{◌≡◌, ℕ, ◌+◌, ◌*◌, ◌<◌, ◌≤◌, ◌^◌, ◌==◌, [], ◌∷◌, length, IfOk, IfErr, OnOk, Ok, Err, MatchOption, true, false};
+ghost use Rattle.std.specs.Prelude.{◌≡◌, ℕ, ◌+◌, ◌*◌, ◌<◌, ◌≤◌, ◌^◌, ◌==◌, [], ◌∷◌, length, MatchOption, true, false};
 ghost use Rattle.marshal_grammar.specs.Longs.{little};
 ghost use Rattle.marshal_grammar.specs.Values.{big_int, is_i128, signed};
-ghost use Rattle.marshal_read.specs.Fails.{Fails, reading, error_of};
-ghost use Rattle.marshal_read.specs.Making.{added, AddsOne};
+ghost use Rattle.marshal_read.specs.Gives.{Adds};
 
 use crate::error::Stop;
 use crate::reader::Reader;
@@ -14,9 +13,7 @@ use marshal_grammar::refusal::Why;
 impl<'a> Reader<'a> {
     /// After `l`: a sign, a long n and 2n bytes.
     pub fn big_int(&mut self, at: usize) -> Result<(), Stop>
-        ensures ok { OnOk result (reading (big_int at) self.old ≡ Ok (added self.old.steps self.new.steps, self.new.seen, self.new.rest)) }
-        ensures adds { OnOk result (AddsOne self.old.steps self.new.steps) }
-        ensures err { IfErr result (λ e. Fails (error_of e self.new.refused) (reading (big_int at) self.old)) }
+        ensures { Adds (big_int at) self.old self.new result }
     {
         let place = self.at();
         let sign = self.byte()?;
@@ -35,7 +32,9 @@ impl<'a> Reader<'a> {
 
 /// The number of a sign and bytes, the first the least; `None` where it has more than 128 bits.
 fn signed(sign: u8, bytes: &[u8]) -> Option<i128>
-    ensures { MatchOption result (is_i128 (signed sign bytes.now) ≡ false) (λ i. (is_i128 (signed sign bytes.now) ≡ true) × (i ≡ signed sign bytes.now)) }
+    ensures { MatchOption result
+        (is_i128 (signed sign bytes.now) ≡ false)
+        (λ i. (is_i128 (signed sign bytes.now) ≡ true) × (i ≡ signed sign bytes.now)) }
 {
     let Some(magnitude) = little(bytes) else {
         return None;

@@ -1,8 +1,8 @@
 //! The parts of a value, one after the other.
 
-ghost use Rattle.std.specs.Prelude.{◌≡◌, ℕ, ◌+◌, ◌≤◌, ◌<◌, suc, [], ◌∷◌, ◌++◌, length, IfOk, IfErr, OnOk, Ok, Err};
+ghost use Rattle.std.specs.Prelude.{◌≡◌, ℕ, ◌+◌, ◌≤◌, ◌<◌, [], ◌∷◌, ◌++◌};
 ghost use Rattle.marshal_grammar.specs.Values.{values, pairs, fields};
-ghost use Rattle.marshal_read.specs.Fails.{Fails, reading, error_of};
+ghost use Rattle.marshal_read.specs.Gives.{AddsAs};
 ghost use Rattle.marshal_read.specs.State.{Named};
 ghost use Rattle.marshal_read.specs.Making.{values_in, pairs_in, fields_in, AddsValues, AddsPairs, AddsFields, key_in, name_in};
 ghost use Rattle.marshal_read.specs.Scopes.{part_in};
@@ -22,9 +22,11 @@ impl<'a> Reader<'a> {
     pub fn values(&mut self, alloc: Global, nested: bool, room: usize, n: u64) -> Result<(), Stop>
         requires room { room ≤ 128 }
         requires named { Named self.old }
-        ensures ok { OnOk result (reading (values (part_in nested room) n) self.old ≡ Ok (values_in self.old.steps self.new.steps, self.new.seen, self.new.rest)) }
-        ensures adds { OnOk result (AddsValues self.old.steps self.new.steps n) }
-        ensures err { IfErr result (λ e. Fails (error_of e self.new.refused) (reading (values (part_in nested room) n) self.old)) }
+        ensures { AddsAs
+            (values (part_in nested room) n)
+            (values_in self.old.steps self.new.steps)
+            (AddsValues self.old.steps self.new.steps n)
+            self.old self.new result }
     {
         for _ in 0..n {
             self.value(alloc, nested, room)?;
@@ -37,9 +39,11 @@ impl<'a> Reader<'a> {
     pub fn pairs(&mut self, alloc: Global, nested: bool, room: usize, n: u64) -> Result<(), Stop>
         requires room { room ≤ 128 }
         requires named { Named self.old }
-        ensures ok { OnOk result (reading (pairs (part_in nested room) [] n) self.old ≡ Ok (pairs_in self.old.steps self.new.steps, self.new.seen, self.new.rest)) }
-        ensures adds { OnOk result (AddsPairs self.old.steps self.new.steps n) }
-        ensures err { IfErr result (λ e. Fails (error_of e self.new.refused) (reading (pairs (part_in nested room) [] n) self.old)) }
+        ensures { AddsAs
+            (pairs (part_in nested room) [] n)
+            (pairs_in self.old.steps self.new.steps)
+            (AddsPairs self.old.steps self.new.steps n)
+            self.old self.new result }
     {
         let mut keys = Items::new(alloc);
         for _ in 0..n {
@@ -62,9 +66,11 @@ impl<'a> Reader<'a> {
     pub fn fields(&mut self, alloc: Global, nested: bool, room: usize, n: u64) -> Result<(), Stop>
         requires room { room ≤ 128 }
         requires named { Named self.old }
-        ensures ok { OnOk result (reading (fields (part_in nested room) [] n) self.old ≡ Ok (fields_in self.old.steps self.new.steps, self.new.seen, self.new.rest)) }
-        ensures adds { OnOk result (AddsFields self.old.steps self.new.steps n) }
-        ensures err { IfErr result (λ e. Fails (error_of e self.new.refused) (reading (fields (part_in nested room) [] n) self.old)) }
+        ensures { AddsAs
+            (fields (part_in nested room) [] n)
+            (fields_in self.old.steps self.new.steps)
+            (AddsFields self.old.steps self.new.steps n)
+            self.old self.new result }
     {
         let mut names = Items::new(alloc);
         for _ in 0..n {

@@ -1,11 +1,11 @@
 //! The reader: the bytes that are left, and what was seen.
 
-ghost use Rattle.std.specs.Prelude.{◌≡◌, ℕ, ◌+◌, ◌<◌, ◌^◌, [], ◌∷◌, ◌++◌, length, IfOk, IfErr, OnOk, Ok, Err, slice_set, Some, None};
+ghost use Rattle.std.specs.Prelude.{◌≡◌, ℕ, ◌+◌, ◌<◌, ◌^◌, [], ◌∷◌, ◌++◌, length, IfOk};
 ghost use Rattle.marshal_grammar.specs.Grammar.{byte, bytes, long};
-ghost use Rattle.marshal_grammar.specs.Contexts.{opening, add_symbol, begin_object, add_object, finish_object};
+ghost use Rattle.marshal_grammar.specs.Contexts.{opening};
 ghost use Rattle.marshal_grammar.specs.declared.refusal.Why.TheVariants as why;
-ghost use Rattle.marshal_read.specs.Fails.{Fails, reading, error_of};
-ghost use Rattle.marshal_read.specs.Making.{nothing};
+ghost use Rattle.marshal_read.specs.Gives.{Gives, GivesBytes};
+ghost use Rattle.marshal_read.specs.Fails.{error_of};
 
 use crate::error::{ReadError, Stop};
 use crate::span::Span;
@@ -49,7 +49,12 @@ impl<'a> Reader<'a> {
     /// A reader at the front of the bytes. It has room for a step for each eight bytes, and for 65,536 at most.
     pub fn new(alloc: Global, bytes: &'a [u8]) -> Result<Reader<'a>, AllocError>
         requires { length bytes.now < 2 ^ 63 }
-        ensures { IfOk result (λ r. r ≡ record { rest = bytes.entry.now; seen = opening; steps = []; refused = record { why = why.Short; at = 0 } }) }
+        ensures { IfOk result (λ r. r ≡ record {
+          rest = bytes.entry.now;
+          seen = opening;
+          steps = [];
+          refused = record { why = why.Short; at = 0 };
+        }) }
     {
         let steps = Items::from_vec(Vec::with_capacity(alloc, (bytes.len() / 8).min(65536))?);
         Ok(Reader {
@@ -78,7 +83,7 @@ impl<'a> Reader<'a> {
     #[inline(always)]
     pub fn left(&self) -> usize
         ensures left { result ≡ length self.now.rest }
-        ensures fits { result < 2 ^ 63 }
+        ensures small { result < 2 ^ 63 }
     {
         self.rest.len()
     }
@@ -106,7 +111,9 @@ impl<'a> Reader<'a> {
     /// Reading stops: a byte is missing.
     pub fn short(&mut self) -> Stop
         ensures stop { result ≡ Stop.Refused }
-        ensures refused { self.new ≡ record self.old { refused = record { why = why.Short; at = self.old.seen.at + length self.old.rest } } }
+        ensures refused { self.new ≡ record self.old {
+          refused = record { why = why.Short; at = self.old.seen.at + length self.old.rest };
+        } }
     {
         let at = self.at + self.rest.len();
         self.refuse(Why::Short, at)
@@ -115,9 +122,7 @@ impl<'a> Reader<'a> {
     /// The next byte.
     #[inline(always)]
     pub fn byte(&mut self) -> Result<u8, Stop>
-        ensures ok { IfOk result (λ b. reading byte self.old ≡ Ok (b, self.new.seen, self.new.rest)) }
-        ensures kept { OnOk result (self.new.steps ≡ self.old.steps) }
-        ensures err { IfErr result (λ e. Fails (error_of e self.new.refused) (reading byte self.old)) }
+        ensures { Gives byte self.old self.new result }
     {
         let Some((first, more)) = self.rest.split_first() else {
             return Err(self.refuse(Why::Short, self.at));
@@ -130,9 +135,7 @@ impl<'a> Reader<'a> {
     /// The next `n` bytes.
     #[inline(always)]
     pub fn bytes(&mut self, n: u64) -> Result<&'a [u8], Stop>
-        ensures ok { IfOk result (λ b. reading (bytes n) self.old ≡ Ok (b.now, self.new.seen, self.new.rest)) }
-        ensures kept { OnOk result (self.new.steps ≡ self.old.steps) }
-        ensures err { IfErr result (λ e. Fails (error_of e self.new.refused) (reading (bytes n) self.old)) }
+        ensures { GivesBytes (bytes n) self.old self.new result }
     {
         if (self.rest.len() as u64) < n {
             return Err(self.refuse(Why::Short, self.at + self.rest.len()));
@@ -146,9 +149,7 @@ impl<'a> Reader<'a> {
     /// The next long.
     #[inline(always)]
     pub fn long(&mut self) -> Result<i64, Stop>
-        ensures ok { IfOk result (λ n. reading long self.old ≡ Ok (n, self.new.seen, self.new.rest)) }
-        ensures kept { OnOk result (self.new.steps ≡ self.old.steps) }
-        ensures err { IfErr result (λ e. Fails (error_of e self.new.refused) (reading long self.old)) }
+        ensures { Gives long self.old self.new result }
     {
         match long_at(self.rest, 0) {
             Ok((n, size)) => {

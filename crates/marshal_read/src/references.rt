@@ -1,12 +1,12 @@
 //! What a `u` holds: a remote object, or the class and the bytes of anything else.
 
-ghost use Rattle.std.specs.Prelude.{◌≡◌, ℕ, ◌+◌, ◌/◌, ◌≤◌, [], ◌∷◌, ◌++◌, length, drop, IfOk, IfErr, OnOk, Ok, Err, Some, None};
+ghost use Rattle.std.specs.Prelude.{◌≡◌, ℕ, ◌+◌, ◌/◌, ◌≤◌, [], ◌∷◌, ◌++◌, length, drop, IfOk, OnOk};
 ghost use Rattle.drb_tree.specs.declared.Tree.TheViews.{out-Tree};
 ghost use Rattle.marshal_grammar.specs.Dumps.{version};
 ghost use Rattle.marshal_grammar.specs.Trees.{remote_of, remote_from, id_of};
 ghost use Rattle.marshal_grammar.specs.Values.{whole, held_value, held_nodes};
 ghost use Rattle.drb_value.specs.View.{layer};
-ghost use Rattle.marshal_read.specs.Fails.{Fails, reading, error_of};
+ghost use Rattle.marshal_read.specs.Gives.{Gives, Reached};
 ghost use Rattle.marshal_read.specs.Making.{made, value_of, MakesOne, HoldsFields};
 ghost use Rattle.marshal_read.specs.Scopes.{held_is, held_steps, Foreign};
 
@@ -32,9 +32,7 @@ pub enum Held<'a> {
 impl<'a> Reader<'a> {
     /// The byte `04` and a byte `00` to `08`.
     pub fn version(&mut self) -> Result<(), Stop>
-        ensures ok { OnOk result (reading version self.old ≡ Ok (tt, self.new.seen, self.new.rest)) }
-        ensures kept { OnOk result (self.new.steps ≡ self.old.steps) }
-        ensures err { IfErr result (λ e. Fails (error_of e self.new.refused) (reading version self.old)) }
+        ensures { Gives version self.old self.new result }
     {
         if self.byte()? != 4 {
             return Err(self.refuse(Why::Version, 0));
@@ -57,7 +55,10 @@ impl<'a> Reader<'a> {
         requires start { start ≤ length self.old.steps }
         requires foreign { Foreign held }
         requires fields { HoldsFields (drop start self.old.steps) n }
-        ensures ok { OnOk result (reading (whole (held_value (held_is held.entry) (made (drop start self.old.steps)).fields)) self.old ≡ Ok (value_of (drop start self.old.steps ++ held_steps held.entry n), self.new.seen, self.new.rest)) }
+        ensures ok { OnOk result (Reached
+            (whole (held_value (held_is held.entry) (made (drop start self.old.steps)).fields))
+            (value_of (drop start self.old.steps ++ held_steps held.entry n))
+            self.old self.new) }
         ensures steps { OnOk result (self.new.steps ≡ self.old.steps ++ held_steps held.entry n) }
     {
         match held {

@@ -1,7 +1,7 @@
 //! The steps that make a value.
 
 ghost use Rattle.std.specs.Prelude.{◌≡◌, [], ◌∷◌, ◌++◌, IfOk, OnOk, OnErr};
-ghost use Rattle.marshal_read.specs.Kept.{kept};
+ghost use Rattle.marshal_read.specs.Forms.{step_of};
 
 use crate::span::Span;
 use drb_tree::{Code, Remote};
@@ -132,7 +132,7 @@ fn keep<'a>(
     count: usize,
     bytes: &'a [u8],
 ) -> Result<(), AllocError>
-    ensures ok { OnOk result (steps.new ≡ steps.old ++ kept form number count bytes.now ∷ []) }
+    ensures ok { OnOk result (steps.new ≡ steps.old ++ step_of form number count bytes.now ∷ []) }
     ensures err { OnErr result (steps.new ≡ steps.old) }
 {
     let step = match form {

@@ -1,16 +1,13 @@
 //! Symbols, names and encoding variables.
 
-ghost use Rattle.std.specs.Prelude.{◌≡◌, ℕ, ◌+◌, ◌<◌, List, [], ◌∷◌, ◌++◌, length, reverse, IfOk, IfErr, OnOk, Ok, Err, MatchOption, Option, Some, None};
+ghost use Rattle.std.specs.Prelude.{◌≡◌, ℕ, ◌+◌, ◌<◌, [], ◌∷◌, ◌++◌, reverse};
 ghost use Rattle.std.specs.Option.{option_copied};
-ghost use Rattle.std.proofs.Common.{inl, inr};
+ghost use Rattle.std.proofs.Common.{inr};
 ghost use Rattle.drb_tree.specs.Same.{all_ascii};
-ghost use Rattle.drb_tree.specs.declared.Code.TheVariants.{Binary, Ascii, Utf8};
-ghost use Rattle.marshal_grammar.specs.Symbols.{plain_symbol, linked_symbol, is_name, encoding_count, encoding_value, ended, marked_round, symbol_by, symbol_round, symbol, name, encoding, marked_symbol};
-ghost use Rattle.marshal_grammar.specs.Grammar.{byte};
+ghost use Rattle.marshal_grammar.specs.Symbols.{plain_symbol, linked_symbol, is_name, encoding_count, encoding_value, ended, marked_round, symbol_by, symbol, name, encoding, marked_symbol};
 ghost use Rattle.marshal_grammar.specs.Kinds.{kind_of};
-ghost use Rattle.marshal_grammar.specs.Reading.{read, next};
-ghost use Rattle.marshal_read.specs.Fails.{Fails, reading, error_of};
-ghost use Rattle.marshal_read.specs.Rounds.{outcome, rounds_left, one_round};
+ghost use Rattle.marshal_read.specs.Gives.{Gives, GivesBytes, GivesAs};
+ghost use Rattle.marshal_read.specs.Rounds.{outcome, one_round};
 
 use crate::counts::heavy;
 use crate::error::Stop;
@@ -50,9 +47,7 @@ fn is_name(bytes: &[u8], code: Code) -> bool
 impl<'a> Reader<'a> {
     /// After `:`: a length and bytes, which are ASCII.
     pub fn plain_symbol(&mut self, at: usize) -> Result<&'a [u8], Stop>
-        ensures ok { IfOk result (λ s. reading (plain_symbol at) self.old ≡ Ok (s.now, self.new.seen, self.new.rest)) }
-        ensures kept { OnOk result (self.new.steps ≡ self.old.steps) }
-        ensures err { IfErr result (λ e. Fails (error_of e self.new.refused) (reading (plain_symbol at) self.old)) }
+        ensures { GivesBytes (plain_symbol at) self.old self.new result }
     {
         let s = self.string()?;
         self.add_symbol(s)?;
@@ -65,9 +60,7 @@ impl<'a> Reader<'a> {
     /// After `;`: the number of a symbol.
     #[inline(always)]
     pub fn linked_symbol(&mut self, at: usize) -> Result<&'a [u8], Stop>
-        ensures ok { IfOk result (λ s. reading (linked_symbol at) self.old ≡ Ok (s.now, self.new.seen, self.new.rest)) }
-        ensures kept { OnOk result (self.new.steps ≡ self.old.steps) }
-        ensures err { IfErr result (λ e. Fails (error_of e self.new.refused) (reading (linked_symbol at) self.old)) }
+        ensures { GivesBytes (linked_symbol at) self.old self.new result }
     {
         let n = self.long()?;
         match self.symbol_at(n) {
@@ -79,9 +72,7 @@ impl<'a> Reader<'a> {
     /// How many encoding variables follow: none or one.
     #[inline(always)]
     fn encoding_count(&mut self, at: usize) -> Result<u64, Stop>
-        ensures ok { IfOk result (λ n. reading (encoding_count at) self.old ≡ Ok (n, self.new.seen, self.new.rest)) }
-        ensures kept { OnOk result (self.new.steps ≡ self.old.steps) }
-        ensures err { IfErr result (λ e. Fails (error_of e self.new.refused) (reading (encoding_count at) self.old)) }
+        ensures { Gives (encoding_count at) self.old self.new result }
     {
         let n = self.count()?;
         if n > 1 {
@@ -93,9 +84,7 @@ impl<'a> Reader<'a> {
     /// After the name of an encoding variable, which is `E`: its value.
     #[inline(always)]
     fn encoding_value(&mut self, at: usize, name: &[u8]) -> Result<Code, Stop>
-        ensures ok { IfOk result (λ c. reading (encoding_value at name.now) self.old ≡ Ok (c, self.new.seen, self.new.rest)) }
-        ensures kept { OnOk result (self.new.steps ≡ self.old.steps) }
-        ensures err { IfErr result (λ e. Fails (error_of e self.new.refused) (reading (encoding_value at name.now) self.old)) }
+        ensures { Gives (encoding_value at name.now) self.old self.new result }
     {
         if name != b"E".as_slice() {
             return Err(self.refuse(Why::Encoding, at));
@@ -114,9 +103,9 @@ impl<'a> Reader<'a> {
         waiting: &mut Items<(usize, Span<'a>)>,
         symbol: &'a [u8],
     ) -> Result<&'a [u8], Stop>
-        ensures ok { IfOk result (λ s. reading (ended (reverse waiting.old) symbol.now) self.old ≡ Ok (inr s.now, self.new.seen, self.new.rest)) }
-        ensures kept { OnOk result (self.new.steps ≡ self.old.steps) }
-        ensures err { IfErr result (λ e. Fails (error_of e self.new.refused) (reading (ended (reverse waiting.old) symbol.now) self.old)) }
+        ensures { GivesAs
+            (ended (reverse waiting.old) symbol.now) (λ s. inr s.now)
+            self.old self.new result }
     {
         let mut symbol = symbol;
         while let Some((at, waited)) = waiting.pop() {
@@ -135,9 +124,10 @@ impl<'a> Reader<'a> {
         at: usize,
         waiting: &mut Items<(usize, Span<'a>)>,
     ) -> Result<Option<&'a [u8]>, Stop>
-        ensures ok { IfOk result (λ s. reading (marked_round at (reverse waiting.old)) self.old ≡ Ok (outcome (option_copied s) (reverse waiting.new), self.new.seen, self.new.rest)) }
-        ensures kept { OnOk result (self.new.steps ≡ self.old.steps) }
-        ensures err { IfErr result (λ e. Fails (error_of e self.new.refused) (reading (marked_round at (reverse waiting.old)) self.old)) }
+        ensures { GivesAs
+            (marked_round at (reverse waiting.old))
+            (λ s. outcome (option_copied s) (reverse waiting.new))
+            self.old self.new result }
     {
         let place = self.at();
         let mark = self.byte()?;
@@ -165,9 +155,10 @@ impl<'a> Reader<'a> {
         first: u8,
         waiting: &mut Items<(usize, Span<'a>)>,
     ) -> Result<Option<&'a [u8]>, Stop>
-        ensures ok { IfOk result (λ s. reading (symbol_by at (reverse waiting.old) first (kind_of first)) self.old ≡ Ok (outcome (option_copied s) (reverse waiting.new), self.new.seen, self.new.rest)) }
-        ensures kept { OnOk result (self.new.steps ≡ self.old.steps) }
-        ensures err { IfErr result (λ e. Fails (error_of e self.new.refused) (reading (symbol_by at (reverse waiting.old) first (kind_of first)) self.old)) }
+        ensures { GivesAs
+            (symbol_by at (reverse waiting.old) first (kind_of first))
+            (λ s. outcome (option_copied s) (reverse waiting.new))
+            self.old self.new result }
     {
         match kind_of(first) {
             Some(Kind::Symbol) => {
@@ -189,9 +180,10 @@ impl<'a> Reader<'a> {
         &mut self,
         waiting: &mut Items<(usize, Span<'a>)>,
     ) -> Result<Option<&'a [u8]>, Stop>
-        ensures ok { IfOk result (λ s. reading (one_round (reverse waiting.old)) self.old ≡ Ok (outcome (option_copied s) (reverse waiting.new), self.new.seen, self.new.rest)) }
-        ensures kept { OnOk result (self.new.steps ≡ self.old.steps) }
-        ensures err { IfErr result (λ e. Fails (error_of e self.new.refused) (reading (one_round (reverse waiting.old)) self.old)) }
+        ensures { GivesAs
+            (one_round (reverse waiting.old))
+            (λ s. outcome (option_copied s) (reverse waiting.new))
+            self.old self.new result }
     {
         let at = self.at();
         let first = self.byte()?;
@@ -200,9 +192,7 @@ impl<'a> Reader<'a> {
 
     /// A symbol: `:`, `;` or `I:`.
     pub fn symbol(&mut self, alloc: Global) -> Result<&'a [u8], Stop>
-        ensures ok { IfOk result (λ s. reading symbol self.old ≡ Ok (s.now, self.new.seen, self.new.rest)) }
-        ensures kept { OnOk result (self.new.steps ≡ self.old.steps) }
-        ensures err { IfErr result (λ e. Fails (error_of e self.new.refused) (reading symbol self.old)) }
+        ensures { GivesBytes symbol self.old self.new result }
     {
         let mut waiting = Items::new(alloc);
         for _ in 0..self.left() + 1 {
@@ -215,9 +205,7 @@ impl<'a> Reader<'a> {
 
     /// A class symbol, or the name of a field or variable: it counts by its bytes at its place.
     pub fn name(&mut self, alloc: Global) -> Result<&'a [u8], Stop>
-        ensures ok { IfOk result (λ s. reading name self.old ≡ Ok (s.now, self.new.seen, self.new.rest)) }
-        ensures kept { OnOk result (self.new.steps ≡ self.old.steps) }
-        ensures err { IfErr result (λ e. Fails (error_of e self.new.refused) (reading name self.old)) }
+        ensures { GivesBytes name self.old self.new result }
     {
         let at = self.at();
         let s = self.symbol(alloc)?;
@@ -228,9 +216,7 @@ impl<'a> Reader<'a> {
     /// Encoding variables: none, binary; one, the symbol `E` and `T` or `F`.
     #[inline(always)]
     pub fn encoding(&mut self, alloc: Global, at: usize) -> Result<Code, Stop>
-        ensures ok { IfOk result (λ c. reading (encoding at) self.old ≡ Ok (c, self.new.seen, self.new.rest)) }
-        ensures kept { OnOk result (self.new.steps ≡ self.old.steps) }
-        ensures err { IfErr result (λ e. Fails (error_of e self.new.refused) (reading (encoding at) self.old)) }
+        ensures { Gives (encoding at) self.old self.new result }
     {
         if self.encoding_count(at)? == 0 {
             return Ok(Code::Binary);
@@ -241,9 +227,7 @@ impl<'a> Reader<'a> {
 
     /// After `I:` of a value: a length and bytes, and encoding variables.
     pub fn marked_symbol(&mut self, alloc: Global, at: usize) -> Result<&'a [u8], Stop>
-        ensures ok { IfOk result (λ s. reading (marked_symbol at) self.old ≡ Ok (s.now, self.new.seen, self.new.rest)) }
-        ensures kept { OnOk result (self.new.steps ≡ self.old.steps) }
-        ensures err { IfErr result (λ e. Fails (error_of e self.new.refused) (reading (marked_symbol at) self.old)) }
+        ensures { GivesBytes (marked_symbol at) self.old self.new result }
     {
         let s = self.string()?;
         self.add_symbol(s)?;

@@ -1,12 +1,12 @@
 //! What the bytes so far leave: symbols, objects, nodes, and the steps that make what was read.
 
-ghost use Rattle.std.specs.Prelude.{◌≡◌, ℕ, ◌+◌, ◌≤◌, ◌<◌, ◌^◌, [], ◌∷◌, ◌++◌, length, drop, IfOk, IfErr, OnOk, OnErr, Ok, Err, slice_get, Some, None, option_map};
+ghost use Rattle.std.specs.Prelude.{◌≡◌, ℕ, ◌+◌, ◌≤◌, ◌<◌, ◌^◌, [], ◌∷◌, ◌++◌, length, drop, IfOk, OnOk, OnErr, Some, option_map};
 ghost use Rattle.std.specs.Option.{option_copied};
 ghost use Rattle.marshal_grammar.specs.Contexts.{add_symbol, begin_object, add_object, finish_object};
 ghost use Rattle.marshal_grammar.specs.Values.{object_at};
 ghost use Rattle.marshal_grammar.specs.Symbols.{symbol_at};
 ghost use Rattle.marshal_grammar.specs.Counts.{count_nodes};
-ghost use Rattle.marshal_read.specs.Fails.{Fails, reading, error_of};
+ghost use Rattle.marshal_read.specs.Gives.{Gives};
 ghost use Rattle.marshal_read.specs.Making.{value_of, MakesOne, cut, Stands, range_of};
 
 use crate::build::built;
@@ -47,7 +47,9 @@ impl<'a> Reader<'a> {
     /// Gives a symbol the next number.
     #[inline(always)]
     pub fn add_symbol(&mut self, symbol: &'a [u8]) -> Result<(), AllocError>
-        ensures { OnOk result (self.new ≡ record self.old { seen = add_symbol symbol.now self.old.seen }) }
+        ensures { OnOk result (self.new ≡ record self.old {
+          seen = add_symbol symbol.now self.old.seen;
+        }) }
     {
         self.symbols.push(Span::of(symbol))?;
         Ok(())
@@ -64,7 +66,9 @@ impl<'a> Reader<'a> {
     /// An object begins: it gets the next number.
     #[inline(always)]
     pub fn begin_object(&mut self) -> Result<Begun, AllocError>
-        ensures state { OnOk result (self.new ≡ record self.old { seen = begin_object self.old.seen }) }
+        ensures state { OnOk result (self.new ≡ record self.old {
+          seen = begin_object self.old.seen;
+        }) }
         ensures number { IfOk result (λ k. k.number ≡ length self.old.seen.objects) }
         ensures start { IfOk result (λ k. k.start ≡ length self.old.steps) }
     {
@@ -79,7 +83,10 @@ impl<'a> Reader<'a> {
     pub fn finish_object(&mut self, begun: Begun)
         requires start { begun.start ≤ length self.old.steps }
         requires makes { MakesOne (drop begun.start self.old.steps) }
-        ensures { self.new ≡ record self.old { seen = finish_object begun.number (value_of (drop begun.start self.old.steps)) self.old.seen } }
+        ensures { self.new ≡ record self.old {
+          seen = finish_object begun.number
+              (value_of (drop begun.start self.old.steps)) self.old.seen;
+        } }
     {
         if begun.number < self.objects.len() {
             let end = self.steps.len();
@@ -92,7 +99,9 @@ impl<'a> Reader<'a> {
     pub fn add_object(&mut self, start: usize) -> Result<(), AllocError>
         requires start { start ≤ length self.old.steps }
         requires makes { MakesOne (drop start self.old.steps) }
-        ensures { OnOk result (self.new ≡ record self.old { seen = add_object (value_of (drop start self.old.steps)) self.old.seen }) }
+        ensures { OnOk result (self.new ≡ record self.old {
+          seen = add_object (value_of (drop start self.old.steps)) self.old.seen;
+        }) }
     {
         let end = self.steps.len();
         add_range(&mut self.objects, start, end, true)?;
@@ -102,7 +111,9 @@ impl<'a> Reader<'a> {
     /// Adds a step at the end.
     #[inline(always)]
     pub fn push(&mut self, step: Step<'a>) -> Result<(), AllocError>
-        ensures { OnOk result (self.new ≡ record self.old { steps = self.old.steps ++ (step.entry ∷ []) }) }
+        ensures { OnOk result (self.new ≡ record self.old {
+          steps = self.old.steps ++ (step.entry ∷ []);
+        }) }
     {
         add(&mut self.steps, step)?;
         Ok(())
@@ -129,7 +140,9 @@ impl<'a> Reader<'a> {
     /// Takes the steps of this range once more.
     pub fn repeat(&mut self, alloc: Global, range: (usize, usize)) -> Result<(), AllocError>
         requires { Stands self.old.steps range }
-        ensures { OnOk result (self.new ≡ record self.old { steps = self.old.steps ++ cut range self.old.steps }) }
+        ensures { OnOk result (self.new ≡ record self.old {
+          steps = self.old.steps ++ cut range self.old.steps;
+        }) }
     {
         for i in range.0..range.1 {
             let step = self.steps.as_slice()[i].copy(alloc)?;
@@ -141,9 +154,7 @@ impl<'a> Reader<'a> {
     /// Counts `k` nodes more at this place.
     #[inline(always)]
     pub fn count_nodes(&mut self, at: usize, k: u64) -> Result<(), Stop>
-        ensures ok { OnOk result (reading (count_nodes at k) self.old ≡ Ok (tt, self.new.seen, self.new.rest)) }
-        ensures kept { OnOk result (self.new.steps ≡ self.old.steps) }
-        ensures err { IfErr result (λ e. Fails (error_of e self.new.refused) (reading (count_nodes at k) self.old)) }
+        ensures { Gives (count_nodes at k) self.old self.new result }
     {
         let nodes = self.nodes.saturating_add(k);
         if nodes > 262144 {
@@ -155,7 +166,8 @@ impl<'a> Reader<'a> {
 
     /// The range of steps of a finished object; `Some(None)` where it is not finished.
     pub fn object(&self, number: i64) -> Option<Option<(usize, usize)>>
-        ensures object { option_map (option_map (λ r. value_of (cut r self.now.steps))) result ≡ object_at self.now.seen number }
+        ensures object { option_map (option_map (λ r. value_of (cut r self.now.steps))) result
+            ≡ object_at self.now.seen number }
         ensures stands { (r : ℕ × ℕ) → result ≡ Some (Some r) → Stands self.now.steps r }
     {
         if number < 0 {

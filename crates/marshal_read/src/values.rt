@@ -1,14 +1,13 @@
 //! Values that end as their bytes do: they have no parts.
 
-ghost use Rattle.std.specs.Prelude.{◌≡◌, ℕ, ◌+◌, ◌≤◌, ◌<◌, [], ◌∷◌, ◌++◌, length, drop, IfOk, IfErr, OnOk, Ok, Err, IsUtf8};
-ghost use Rattle.drb_tree.specs.declared.Code.TheVariants.{Binary};
+ghost use Rattle.std.specs.Prelude.{◌≡◌, ℕ, ◌+◌, ◌≤◌, ◌<◌, [], ◌∷◌, ◌++◌, length, OnOk, IsUtf8};
 ghost use Rattle.marshal_grammar.specs.Trees as tree;
-ghost use Rattle.marshal_grammar.specs.Values.{simple, whole, ends, small_int, big_int, symbol_value, plain_text, marked_text, named_value};
+ghost use Rattle.marshal_grammar.specs.Values.{simple, whole, ends, small_int, symbol_value, plain_text, marked_text, named_value};
 ghost use Rattle.marshal_grammar.specs.Grammar.{gives};
 ghost use Rattle.marshal_grammar.specs.Symbols.{plain_symbol, linked_symbol, marked_symbol};
-ghost use Rattle.marshal_read.specs.Fails.{Fails, reading, error_of};
+ghost use Rattle.marshal_read.specs.Gives.{Adds, Reached, ReachedBy};
 ghost use Rattle.marshal_read.specs.State.{Named};
-ghost use Rattle.marshal_read.specs.Making.{Leaf, value_of, MakesOne, added, AddsOne};
+ghost use Rattle.marshal_read.specs.Making.{Leaf, value_of, MakesOne, added, AddsOne, ended_by};
 
 use crate::counts::heavy;
 use crate::error::Stop;
@@ -26,9 +25,7 @@ impl<'a> Reader<'a> {
     #[inline(always)]
     pub fn simple(&mut self, at: usize, step: Step<'a>) -> Result<(), Stop>
         requires { Leaf step }
-        ensures ok { OnOk result (reading (simple at (value_of (step.entry ∷ []))) self.old ≡ Ok (added self.old.steps self.new.steps, self.new.seen, self.new.rest)) }
-        ensures adds { OnOk result (AddsOne self.old.steps self.new.steps) }
-        ensures err { IfErr result (λ e. Fails (error_of e self.new.refused) (reading (simple at (value_of (step.entry ∷ []))) self.old)) }
+        ensures { Adds (simple at (value_of (step.entry ∷ []))) self.old self.new result }
     {
         self.count_nodes(at, 1)?;
         Ok(self.push(step)?)
@@ -38,7 +35,9 @@ impl<'a> Reader<'a> {
     #[inline(always)]
     pub fn whole(&mut self, step: Step<'a>) -> Result<(), AllocError>
         requires { Leaf step }
-        ensures ok { OnOk result (reading (whole (value_of (step.entry ∷ []))) self.old ≡ Ok (added self.old.steps self.new.steps, self.new.seen, self.new.rest)) }
+        ensures ok { OnOk result (Reached
+            (whole (value_of (step.entry ∷ []))) (added self.old.steps self.new.steps)
+            self.old self.new) }
         ensures steps { OnOk result (self.new.steps ≡ self.old.steps ++ (step.entry ∷ [])) }
         ensures adds { OnOk result (AddsOne self.old.steps self.new.steps) }
     {
@@ -50,8 +49,10 @@ impl<'a> Reader<'a> {
     /// An object gets its number at its end, with this step. Its parts are what the steps from `start` on make.
     pub fn whole_from(&mut self, start: usize, step: Step<'a>) -> Result<(), AllocError>
         requires start { start ≤ length self.old.steps }
-        requires makes { MakesOne (drop start self.old.steps ++ (step ∷ [])) }
-        ensures ok { OnOk result (reading (whole (value_of (drop start self.old.steps ++ (step.entry ∷ [])))) self.old ≡ Ok (value_of (drop start self.old.steps ++ (step.entry ∷ [])), self.new.seen, self.new.rest)) }
+        requires makes { MakesOne (ended_by start step self.old.steps) }
+        ensures ok { OnOk result (ReachedBy
+            whole (ended_by start step.entry self.old.steps)
+            self.old self.new) }
         ensures steps { OnOk result (self.new.steps ≡ self.old.steps ++ (step.entry ∷ [])) }
     {
         self.push(step)?;
@@ -62,8 +63,10 @@ impl<'a> Reader<'a> {
     #[inline(always)]
     pub fn end(&mut self, begun: Begun, step: Step<'a>) -> Result<(), AllocError>
         requires start { begun.start ≤ length self.old.steps }
-        requires makes { MakesOne (drop begun.start self.old.steps ++ (step ∷ [])) }
-        ensures ok { OnOk result (reading (ends begun.number (value_of (drop begun.start self.old.steps ++ (step.entry ∷ [])))) self.old ≡ Ok (value_of (drop begun.start self.old.steps ++ (step.entry ∷ [])), self.new.seen, self.new.rest)) }
+        requires makes { MakesOne (ended_by begun.start step self.old.steps) }
+        ensures ok { OnOk result (ReachedBy
+            (ends begun.number) (ended_by begun.start step.entry self.old.steps)
+            self.old self.new) }
         ensures steps { OnOk result (self.new.steps ≡ self.old.steps ++ (step.entry ∷ [])) }
     {
         self.push(step)?;
@@ -74,9 +77,7 @@ impl<'a> Reader<'a> {
     /// After `i`: a long.
     #[inline(always)]
     pub fn small_int(&mut self, at: usize) -> Result<(), Stop>
-        ensures ok { OnOk result (reading (small_int at) self.old ≡ Ok (added self.old.steps self.new.steps, self.new.seen, self.new.rest)) }
-        ensures adds { OnOk result (AddsOne self.old.steps self.new.steps) }
-        ensures err { IfErr result (λ e. Fails (error_of e self.new.refused) (reading (small_int at) self.old)) }
+        ensures { Adds (small_int at) self.old self.new result }
     {
         let n = self.long()?;
         self.simple(at, Step::Int(n as i128))
@@ -86,9 +87,7 @@ impl<'a> Reader<'a> {
     #[inline(always)]
     fn symbol_entry(&mut self, at: usize, symbol: &'a [u8]) -> Result<(), Stop>
         requires { IsUtf8 symbol.now }
-        ensures ok { OnOk result (reading (symbol_value at (gives symbol.now)) self.old ≡ Ok (added self.old.steps self.new.steps, self.new.seen, self.new.rest)) }
-        ensures adds { OnOk result (AddsOne self.old.steps self.new.steps) }
-        ensures err { IfErr result (λ e. Fails (error_of e self.new.refused) (reading (symbol_value at (gives symbol.now)) self.old)) }
+        ensures { Adds (symbol_value at (gives symbol.now)) self.old self.new result }
     {
         self.count_nodes(at, heavy(symbol))?;
         Ok(self.push(Step::Sym(Span::of(symbol)))?)
@@ -97,9 +96,7 @@ impl<'a> Reader<'a> {
     /// After `:` of a value.
     pub fn plain_symbol_value(&mut self, at: usize) -> Result<(), Stop>
         requires { Named self.old }
-        ensures ok { OnOk result (reading (symbol_value at (plain_symbol at)) self.old ≡ Ok (added self.old.steps self.new.steps, self.new.seen, self.new.rest)) }
-        ensures adds { OnOk result (AddsOne self.old.steps self.new.steps) }
-        ensures err { IfErr result (λ e. Fails (error_of e self.new.refused) (reading (symbol_value at (plain_symbol at)) self.old)) }
+        ensures { Adds (symbol_value at (plain_symbol at)) self.old self.new result }
     {
         let s = self.plain_symbol(at)?;
         self.symbol_entry(at, s)
@@ -109,9 +106,7 @@ impl<'a> Reader<'a> {
     #[inline(always)]
     pub fn linked_symbol_value(&mut self, at: usize) -> Result<(), Stop>
         requires { Named self.old }
-        ensures ok { OnOk result (reading (symbol_value at (linked_symbol at)) self.old ≡ Ok (added self.old.steps self.new.steps, self.new.seen, self.new.rest)) }
-        ensures adds { OnOk result (AddsOne self.old.steps self.new.steps) }
-        ensures err { IfErr result (λ e. Fails (error_of e self.new.refused) (reading (symbol_value at (linked_symbol at)) self.old)) }
+        ensures { Adds (symbol_value at (linked_symbol at)) self.old self.new result }
     {
         let s = self.linked_symbol(at)?;
         self.symbol_entry(at, s)
@@ -120,9 +115,7 @@ impl<'a> Reader<'a> {
     /// After `I:` of a value.
     pub fn marked_symbol_value(&mut self, alloc: Global, at: usize) -> Result<(), Stop>
         requires { Named self.old }
-        ensures ok { OnOk result (reading (symbol_value at (marked_symbol at)) self.old ≡ Ok (added self.old.steps self.new.steps, self.new.seen, self.new.rest)) }
-        ensures adds { OnOk result (AddsOne self.old.steps self.new.steps) }
-        ensures err { IfErr result (λ e. Fails (error_of e self.new.refused) (reading (symbol_value at (marked_symbol at)) self.old)) }
+        ensures { Adds (symbol_value at (marked_symbol at)) self.old self.new result }
     {
         let s = self.marked_symbol(alloc, at)?;
         self.symbol_entry(at, s)
@@ -131,9 +124,7 @@ impl<'a> Reader<'a> {
     /// After `"`: a length and bytes.
     #[inline(always)]
     pub fn plain_text(&mut self, at: usize) -> Result<(), Stop>
-        ensures ok { OnOk result (reading (plain_text at) self.old ≡ Ok (added self.old.steps self.new.steps, self.new.seen, self.new.rest)) }
-        ensures adds { OnOk result (AddsOne self.old.steps self.new.steps) }
-        ensures err { IfErr result (λ e. Fails (error_of e self.new.refused) (reading (plain_text at) self.old)) }
+        ensures { Adds (plain_text at) self.old self.new result }
     {
         let s = self.string()?;
         self.count_nodes(at, heavy(s))?;
@@ -143,9 +134,7 @@ impl<'a> Reader<'a> {
     /// After `I"`: a length and bytes, and encoding variables.
     #[inline(always)]
     pub fn marked_text(&mut self, alloc: Global, at: usize) -> Result<(), Stop>
-        ensures ok { OnOk result (reading (marked_text at) self.old ≡ Ok (added self.old.steps self.new.steps, self.new.seen, self.new.rest)) }
-        ensures adds { OnOk result (AddsOne self.old.steps self.new.steps) }
-        ensures err { IfErr result (λ e. Fails (error_of e self.new.refused) (reading (marked_text at) self.old)) }
+        ensures { Adds (marked_text at) self.old self.new result }
     {
         let s = self.string()?;
         let code = self.encoding(alloc, at)?;
@@ -155,9 +144,7 @@ impl<'a> Reader<'a> {
 
     /// After `c`: a length and bytes, which are ASCII.
     pub fn class(&mut self, at: usize) -> Result<(), Stop>
-        ensures ok { OnOk result (reading (named_value tree.class at) self.old ≡ Ok (added self.old.steps self.new.steps, self.new.seen, self.new.rest)) }
-        ensures adds { OnOk result (AddsOne self.old.steps self.new.steps) }
-        ensures err { IfErr result (λ e. Fails (error_of e self.new.refused) (reading (named_value tree.class at) self.old)) }
+        ensures { Adds (named_value tree.class at) self.old self.new result }
     {
         let s = self.string()?;
         if !all_ascii(s) {
@@ -169,9 +156,7 @@ impl<'a> Reader<'a> {
 
     /// After `m`: the same.
     pub fn module(&mut self, at: usize) -> Result<(), Stop>
-        ensures ok { OnOk result (reading (named_value tree.module_named at) self.old ≡ Ok (added self.old.steps self.new.steps, self.new.seen, self.new.rest)) }
-        ensures adds { OnOk result (AddsOne self.old.steps self.new.steps) }
-        ensures err { IfErr result (λ e. Fails (error_of e self.new.refused) (reading (named_value tree.module_named at) self.old)) }
+        ensures { Adds (named_value tree.module_named at) self.old self.new result }
     {
         let s = self.string()?;
         if !all_ascii(s) {

@@ -1,6 +1,6 @@
 use Rattle.std.proofs.Common.{◌+◌, ◌*◌, ◌-◌, []}
 use Rattle.marshal_grammar.specs.Values.{values, pairs, fields}
-use Rattle.marshal_read.specs.Fails.{reading}
+use Rattle.marshal_read.specs.Fails.{read_at}
 use Rattle.marshal_read.specs.Scopes.{part_in}
 use Rattle.marshal_read.proofs.Loops.{scope, ValuesSo, PairsSo, FieldsSo}
 use Rattle.marshal_read.proofs.reader.Reader.+read.Given as goal
@@ -54,10 +54,10 @@ abbrev pub decreases-fields : goal.decreases-fields
 decreases-fields l = scope l.nested + (10 * l.room + 5)
 
 abbrev pub invariant-values-loop : goal.invariant-values-loop
-invariant-values-loop l = ValuesSo (reading (values (part_in l.nested l.room) l.n) l.initial.self) (part_in l.nested l.room) (l.n - l.counter) l.counter l.initial.self.steps l.self
+invariant-values-loop l = ValuesSo (read_at (values (part_in l.nested l.room) l.n) l.initial.self) (part_in l.nested l.room) (l.n - l.counter) l.counter l.initial.self.steps l.self
 
 abbrev pub invariant-pairs-loop : goal.invariant-pairs-loop
-invariant-pairs-loop l = PairsSo (reading (pairs (part_in l.nested l.room) [] l.n) l.initial.self) (part_in l.nested l.room) (l.n - l.counter) l.counter l.keys l.initial.self.steps l.self
+invariant-pairs-loop l = PairsSo (read_at (pairs (part_in l.nested l.room) [] l.n) l.initial.self) (part_in l.nested l.room) (l.n - l.counter) l.counter l.keys l.initial.self.steps l.self
 
 abbrev pub invariant-fields-loop : goal.invariant-fields-loop
-invariant-fields-loop l = FieldsSo (reading (fields (part_in l.nested l.room) [] l.n) l.initial.self) (part_in l.nested l.room) (l.n - l.counter) l.counter l.names l.initial.self.steps l.self
+invariant-fields-loop l = FieldsSo (read_at (fields (part_in l.nested l.room) [] l.n) l.initial.self) (part_in l.nested l.room) (l.n - l.counter) l.counter l.names l.initial.self.steps l.self

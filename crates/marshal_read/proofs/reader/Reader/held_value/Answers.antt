@@ -6,7 +6,7 @@ use Rattle.marshal_grammar.specs.Trees.{remote}
 use Rattle.marshal_grammar.specs.Values as V
 use Rattle.marshal_read.specs.declared.steps.Step.TheVariants as S
 use Rattle.marshal_read.specs.State.{State}
-use Rattle.marshal_read.specs.Fails.{reading}
+use Rattle.marshal_read.specs.Fails.{read_at}
 use Rattle.marshal_read.proofs.Holding.{held_one, held_read, leaf_read, remote_held}
 use Rattle.marshal_read.proofs.reader.Reader.held_value.Goals as goal
 
@@ -25,5 +25,5 @@ returns-in_ok-push-in-Remote-clause-ok c =
     let r = c.in_ok-remote-in-Remote.remote in
     let e : c.args.held ≡ H.Remote r = c.in-Remote.is ∙ ap (λ (x : Remote). H.Remote x) (sym c.in_ok-remote-in-Remote.ensures) in
     remote_held c.whole.result c.args.held r (drop c.args.start c.args.self.now.steps) c.args.n c.args.self.now c.push.new.self c.whole.new.self e c.requires.fields
-    (ap (λ (z : State). reading (V.whole (remote r)) z) c.in_ok-push-in-Remote.ensures)
-    (leaf_read c.whole.result (reading (V.whole (remote r)) c.push.new.self) c.push.new.self c.whole.new.self (S.Remote r) tt c.whole.ensures.ok c.whole.ensures.steps)
+    (ap (λ (z : State). read_at (V.whole (remote r)) z) c.in_ok-push-in-Remote.ensures)
+    (leaf_read c.whole.result (read_at (V.whole (remote r)) c.push.new.self) c.push.new.self c.whole.new.self (S.Remote r) tt c.whole.ensures.ok c.whole.ensures.steps)

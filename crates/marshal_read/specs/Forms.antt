@@ -7,13 +7,13 @@ use Rattle.marshal_read.specs.declared.steps.Step.{Step}
 use Rattle.marshal_read.specs.declared.steps.Step.TheVariants as S
 
 -- the step of a form, of a number, a count or bytes
-abbrev pub kept : Form → ℤ → ℕ → List ℕ → Step
-kept form.Nil i n s = S.Nil
-kept form.True i n s = S.Bool true
-kept form.False i n s = S.Bool false
-kept form.Int i n s = S.Int i
-kept form.Sym i n s = S.Sym s
-kept form.Binary i n s = S.Text s Binary
-kept form.Ascii i n s = S.Text s Ascii
-kept form.Utf8 i n s = S.Text s Utf8
-kept form.List i n s = S.List n
+abbrev pub step_of : Form → ℤ → ℕ → List ℕ → Step
+step_of form.Nil i n s = S.Nil
+step_of form.True i n s = S.Bool true
+step_of form.False i n s = S.Bool false
+step_of form.Int i n s = S.Int i
+step_of form.Sym i n s = S.Sym s
+step_of form.Binary i n s = S.Text s Binary
+step_of form.Ascii i n s = S.Text s Ascii
+step_of form.Utf8 i n s = S.Text s Utf8
+step_of form.List i n s = S.List n
