@@ -7,8 +7,6 @@
 #![tactic(auto)]
 
 mod rewrite;
-#[cfg(test)]
-mod tests;
 
 use rewrite::rewrite;
 use std::alloc::Global;

@@ -38,9 +38,14 @@ pub enum RewriteError {
 /// Source: docs/MARSHAL.md, Dumps and The written spelling.
 pub fn rewrite(alloc: Global, bytes: &[u8]) -> Result<Vec<u8>, RewriteError>
     ensures written { IfOk result (λ out. Rewrites bytes.now out.items) }
-    ensures too_long { result ≡ Err RewriteError.TooLong → (v : Tree) × (n : ℕ) × DumpOf bytes.now v n × (max_dump < length (spelled v)) }
-    ensures refusal { (f : Refusal) → result ≡ Err (RewriteError.Refused f) → Refuses bytes.now f.why f.at }
-    ensures every_refusal { (why : Why) (at : ℕ) → Refuses bytes.now why at → (result ≡ Err (RewriteError.Refused (record { why = why; at = at }))) ⊎ (result ≡ Err RewriteError.Memory) }
+    ensures too_long { result ≡ Err RewriteError.TooLong
+        → (v : Tree) × (n : ℕ) × DumpOf bytes.now v n × (max_dump < length (spelled v)) }
+    ensures refusal { (f : Refusal)
+        → result ≡ Err (RewriteError.Refused f) → Refuses bytes.now f.why f.at }
+    ensures every_refusal { (why : Why) (at : ℕ)
+        → Refuses bytes.now why at
+        → (result ≡ Err (RewriteError.Refused (record { why = why; at = at })))
+        ⊎ (result ≡ Err RewriteError.Memory) }
 {
     match read_dump(alloc, bytes) {
         Ok((value, _)) => written(alloc, &value),
