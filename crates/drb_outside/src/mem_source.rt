@@ -25,7 +25,13 @@ impl Model for MemSource {
 
     ghost Value = { Pieces };
 
-    ghost view = { λ s. record { bytes = drop s.at s.bytes.items; pieces = s.pieces.items; fail = s.fail.items; calls = s.call; faults = s.faults } };
+    ghost view = { λ s. record {
+      bytes = drop s.at s.bytes.items;
+      pieces = s.pieces.items;
+      fail = s.fail.items;
+      calls = s.call;
+      faults = s.faults;
+    } };
 
     ghost invariant = { λ s. s.at ≤ vec_len s.bytes };
 }
@@ -36,7 +42,13 @@ impl MemSource {
     /// The k-th read, from 1, gives at most as many bytes as `pieces` says at k - 1 (a 0 counts as 1), and past that
     /// list's end as many as the buffer takes. `fail` lists the numbers, from 1, of the reads that are to fail.
     pub fn new(bytes: Vec<u8>, pieces: Vec<usize>, fail: Vec<u64>) -> Self
-        ensures { result ≡ record { bytes = bytes.items; pieces = pieces.items; fail = fail.items; calls = 0; faults = 0 } }
+        ensures { result ≡ record {
+          bytes = bytes.items;
+          pieces = pieces.items;
+          fail = fail.items;
+          calls = 0;
+          faults = 0;
+        } }
     {
         MemSource {
             bytes,
@@ -62,7 +74,7 @@ fn piece_of(pieces: &[usize], calls: u64, room: usize) -> usize
 }
 
 /// Copies the bytes from there on that fit, and says how many they were.
-fn give(bytes: &[u8], at: usize, most: usize, buf: &mut [u8]) -> usize
+pub(crate) fn give(bytes: &[u8], at: usize, most: usize, buf: &mut [u8]) -> usize
     requires within { at ≤ length bytes.now }
     requires room { most ≤ length buf.old }
     ensures count { result ≡ min most (length bytes.now - at) }
@@ -78,17 +90,26 @@ impl Source for MemSource {
 
     ghost faults = { λ s. s.faults };
 
+    ghost holds = { λ _. 0 };
+
     ghost stays = { λ _. no_records };
 
     /// Gives the next piece, or fails where this call's number is in the list of failures.
     fn read(&mut self, buf: &mut [u8]) -> Result<usize, Failed>
         ensures bound { ReadsAtMost result buf.new }
-        ensures bytes { Told (Some self.old.bytes) (Some self.new.bytes) self.new.faults (ReadTakes result buf.new) }
-        ensures stays { Told (Some self.old.bytes) (Some self.new.bytes) self.new.faults (λ _ _. no_records ≡ no_records) }
+        ensures bytes { Told (Some self.old.bytes) (Some self.new.bytes) self.new.faults
+            (ReadTakes result buf.new) }
+        ensures stays { Told (Some self.old.bytes) (Some self.new.bytes) self.new.faults
+            (λ _ _. no_records ≡ no_records) }
         ensures cause { HasCause self.old.faults self.new.faults result }
         ensures fails { IsErr result ↔ Contains self.old.fail (one_more self.old.calls) }
-        ensures gives { IfOk result (λ n. n ≡ min (piece_of self.old.pieces self.old.calls (length buf.new)) (length self.old.bytes)) }
-        ensures calls { self.new ≡ record self.old { bytes = self.new.bytes; calls = one_more self.old.calls; faults = self.new.faults } }
+        ensures gives { IfOk result (λ n. n ≡
+            min (piece_of self.old.pieces self.old.calls (length buf.new)) (length self.old.bytes)) }
+        ensures calls { self.new ≡ record self.old {
+          bytes = self.new.bytes;
+          calls = one_more self.old.calls;
+          faults = self.new.faults;
+        } }
     {
         let calls = self.call;
         self.call = calls.saturating_add(1);

@@ -6,10 +6,13 @@ ghost use Rattle.drb_outside.specs.Told.{Told, HasCause, ReadTakes, WriteGives, 
 ghost use Rattle.drb_outside.specs.Records.{Record};
 ghost use Rattle.drb_outside.specs.Calls.{Dials, Sends, Receives, hung_up, peer};
 
+use thiserror::Error;
+
 /// A call failed, and the object's count of faults rose.
 ///
 /// A count that stands at the greatest u64 counts as risen.
-#[derive(Clone, Copy, Debug, PartialEq, Eq)]
+#[derive(Clone, Copy, Debug, PartialEq, Eq, Error)]
+#[error("the call failed")]
 pub struct Failed;
 
 /// Where bytes come from.
@@ -19,6 +22,9 @@ pub trait Source {
 
     /// How often it has failed, up to the greatest u64.
     ghost faults: { Self → ℕ };
+
+    /// The name of the reference that it holds, or 0 where it holds none. No read puts another one there.
+    ghost holds: { Self → ℕ };
 
     /// What no read changes.
     ghost stays: { Self → List Record };
@@ -31,6 +37,7 @@ pub trait Source {
         ensures bound { ReadsAtMost result buf.new }
         ensures bytes { Told (left self.old) (left self.new) (faults self.new) (ReadTakes result buf.new) }
         ensures stays { Told (left self.old) (left self.new) (faults self.new) (λ _ _. stays self.new ≡ stays self.old) }
+        ensures holds { holds self.new ≡ holds self.old }
         ensures cause { HasCause (faults self.old) (faults self.new) result };
 }
 
@@ -42,6 +49,12 @@ pub trait Sink {
     /// How often it has failed, up to the greatest u64.
     ghost faults: { Self → ℕ };
 
+    /// The name of the reference that it holds, or 0 where it holds none. No write puts another one there.
+    ghost holds: { Self → ℕ };
+
+    /// What no write changes.
+    ghost stays: { Self → List Record };
+
     /// Takes the first bytes of the piece, and says how many they are: at least one of a piece that isn't empty.
     ///
     /// `Failed` took nothing. Source: Rust's `std::io::Write::write`.
@@ -49,6 +62,8 @@ pub trait Sink {
         ensures bound { WritesAtMost result piece.now }
         ensures some { 0 < length piece.now → IfOk result (λ n. 0 < n) }
         ensures bytes { Told (given self.old) (given self.new) (faults self.new) (WriteGives result piece.now) }
+        ensures stays { Told (given self.old) (given self.new) (faults self.new) (λ _ _. stays self.new ≡ stays self.old) }
+        ensures holds { holds self.new ≡ holds self.old }
         ensures cause { HasCause (faults self.old) (faults self.new) result };
 }
 
@@ -81,7 +96,8 @@ pub trait Dialer {
     ///
     /// `Failed` leaves no call up, and the record of a failed dial.
     fn dial(&mut self, to: &Address<'_>) -> Result<(), Failed>
-        ensures calls { Told (calls self.old) (calls self.new) (faults self.new) (Dials (peer to.now.host.now to.now.port) result) }
+        ensures calls { Told (calls self.old) (calls self.new) (faults self.new)
+            (Dials (peer to.now.host.now to.now.port) result) }
         ensures cause { HasCause (faults self.old) (faults self.new) result };
 
     /// Sends the first bytes of the piece over the call that is up, as a sink takes them.
