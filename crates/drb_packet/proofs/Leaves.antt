@@ -1,5 +1,5 @@
 -- A size and a body, from what was filled.
-use Rattle.std.proofs.Common.{◌≡◌, ℕ, ◌+◌, ◌<◌, ◌≤◌, List, [], ◌∷◌, ◌++◌, length, take, drop, nat_lt, Bool, true, false, refl, sym, ◌∙◌, ap, subst, append_assoc, arith}
+use Rattle.std.proofs.Common.{◌≡◌, ℕ, ◌<◌, ◌≤◌, List, [], ◌∷◌, ◌++◌, length, take, drop, nat_lt, Bool, true, false, refl, sym, ◌∙◌, ap, subst, arith}
 use Rattle.std.proofs.lemmas.Grind.{common_steps}
 use Rattle.std.proofs.lemmas.Bool.Decides.{nat_tests}
 use Rattle.std.proofs.lemmas.List.{append-nil, take-append-drop}
@@ -8,8 +8,9 @@ use Rattle.std.specs.declared.option.Option.{Option}
 use Rattle.std.specs.declared.result.Result.{Result}
 use Rattle.byteorder.specs.Endian.{big_number}
 use Rattle.drb_tree.specs.declared.Tree.{Tree}
-use Rattle.drb_outside.specs.Told.{Told}
-use Rattle.drb_outside.specs.Telling.{told_on, told_as}
+use Rattle.drb_outside.specs.Records.{Record}
+use Rattle.drb_outside.specs.Changes.{ChangesBytes}
+use Rattle.drb_outside.specs.Telling.{changes_as}
 use Rattle.marshal_grammar.specs.declared.refusal.Refusal.{Refusal}
 use Rattle.marshal_grammar.specs.Dumps.{dump_of, Refuses}
 use Rattle.marshal_grammar.proofs.Answering.{any_rest, reads_refusals}
@@ -20,10 +21,10 @@ use Rattle.drb_packet.specs.declared.refusal.PacketError.TheVariants as fault
 use Rattle.drb_packet.specs.declared.stop.Stop.{Stop}
 use Rattle.drb_packet.specs.declared.stop.Stop.TheVariants as stop
 use Rattle.drb_packet.specs.Stops.{stop_of}
-use Rattle.drb_packet.specs.Fronts.{Front, holds, ended, refused, Reading, ◌>>=◌, is_open}
-use Rattle.drb_packet.specs.Packets.{small, size, body, dumped, loaded, packet}
-use Rattle.drb_packet.specs.Reads.{Takes, Reads, Judges, Moves, Fills, Filled}
-use Rattle.drb_packet.proofs.Steps.{told_then, told_stop, told_judged}
+use Rattle.drb_packet.specs.Parsers.{holds, ended, refused, is_open}
+use Rattle.drb_packet.specs.Packets.{small, size, packet_body, dumped, loaded, packet}
+use Rattle.drb_packet.specs.Reads.{Takes, Parses, Judges, Moves, Fills}
+use Rattle.drb_packet.proofs.Steps.{changes_then, changes_stop, changes_judged}
 
 -- what was filled, from nothing, stands in front of what is left
 front_of : (o out x y : List ℕ) → o ≡ [] → Moves o out x y → x ≡ out ++ y
@@ -70,74 +71,74 @@ small_not load n rest e =
 takes_size : (load n : ℕ) (o out x y : List ℕ) → o ≡ [] → n ≡ big_number 4 out → n < load → Fills 4 (Ok true) o out x y → Takes (size load) n x y
 takes_size load n o out x y e is lt f = (out, front_of o out x y e f.moves, λ more. size_whole load out more f.filled ∙ ap (λ k. small load k more) (sym is) ∙ small_here load n more lt)
 
-pub told_size : (load n : ℕ) (o out : List ℕ) (r : Result Bool PacketError) (l l' : Option (List ℕ)) (m : ℕ) → o ≡ [] → r ≡ Ok true → n ≡ big_number 4 out → n < load → Told l l' m (Fills 4 r o out) → Told l l' m (Reads (size load) (Ok n))
-told_size load n o out r l l' m e is sized lt s = told_as (Fills 4 r o out) (Reads (size load) (Ok n)) l l' m (λ x y f. takes_size load n o out x y e sized lt (subst (λ (r : Result Bool PacketError). Fills 4 r o out x y) is f)) s
+pub changes_size : {X : Type 0} {t : X → Option (List ℕ)} {k : X → List Record} {h f : X → ℕ} {a b : X} (load n : ℕ) (o out : List ℕ) (r : Result Bool PacketError) → o ≡ [] → r ≡ Ok true → n ≡ big_number 4 out → n < load → ChangesBytes t k h f a b (Fills 4 r o out) → ChangesBytes t k h f a b (Parses (size load) (Ok n))
+changes_size load n o out r e is sized lt s = changes_as (Fills 4 r o out) (Parses (size load) (Ok n)) (λ x y w. takes_size load n o out x y e sized lt (subst (λ (r : Result Bool PacketError). Fills 4 r o out x y) is w)) s
 
 large_size : (load n : ℕ) (o out x y : List ℕ) → o ≡ [] → n ≡ big_number 4 out → load ≤ n → Fills 4 (Ok true) o out x y → size load x ≡ refused (TooLarge n) y
 large_size load n o out x y e is le f = ap (λ q. size load q) (front_of o out x y e f.moves) ∙ size_whole load out y f.filled ∙ ap (λ k. small load k y) (sym is) ∙ small_not load n y le
 
-pub told_large : (load n : ℕ) (o out : List ℕ) (r : Result Bool PacketError) (l l' : Option (List ℕ)) (m : ℕ) → o ≡ [] → r ≡ Ok true → n ≡ big_number 4 out → load ≤ n → Told l l' m (Fills 4 r o out) → Told l l' m (Reads (size load) (Err (stop.Refused (TooLarge n))))
-told_large load n o out r l l' m e is sized le s = told_as (Fills 4 r o out) (Reads (size load) (Err (stop.Refused (TooLarge n)))) l l' m (λ x y f. large_size load n o out x y e sized le (subst (λ (r : Result Bool PacketError). Fills 4 r o out x y) is f)) s
+pub changes_large : {X : Type 0} {t : X → Option (List ℕ)} {k : X → List Record} {h f : X → ℕ} {a b : X} (load n : ℕ) (o out : List ℕ) (r : Result Bool PacketError) → o ≡ [] → r ≡ Ok true → n ≡ big_number 4 out → load ≤ n → ChangesBytes t k h f a b (Fills 4 r o out) → ChangesBytes t k h f a b (Parses (size load) (Err (stop.Refused (TooLarge n))))
+changes_large load n o out r e is sized le s = changes_as (Fills 4 r o out) (Parses (size load) (Err (stop.Refused (TooLarge n)))) (λ x y w. large_size load n o out x y e sized le (subst (λ (r : Result Bool PacketError). Fills 4 r o out x y) is w)) s
 
 no_size : (load : ℕ) (o out x y : List ℕ) → o ≡ [] → out ≡ [] → Fills 4 (Ok false) o out x y → (size load x ≡ ended) × (y ≡ [])
 no_size load o out x y e none f = (ap (λ q. size load q) (all_of out x y (front_of o out x y e f.moves) f.filled.1 ∙ none), f.filled.1)
 
-pub told_no_size : (load : ℕ) (o out : List ℕ) (r : Result Bool PacketError) (l l' : Option (List ℕ)) (m : ℕ) → o ≡ [] → r ≡ Ok false → out ≡ [] → Told l l' m (Fills 4 r o out) → Told l l' m (Reads (size load) (Err stop.End))
-told_no_size load o out r l l' m e is none s = told_as (Fills 4 r o out) (Reads (size load) (Err stop.End)) l l' m (λ x y f. no_size load o out x y e none (subst (λ (r : Result Bool PacketError). Fills 4 r o out x y) is f)) s
+pub changes_no_size : {X : Type 0} {t : X → Option (List ℕ)} {k : X → List Record} {h f : X → ℕ} {a b : X} (load : ℕ) (o out : List ℕ) (r : Result Bool PacketError) → o ≡ [] → r ≡ Ok false → out ≡ [] → ChangesBytes t k h f a b (Fills 4 r o out) → ChangesBytes t k h f a b (Parses (size load) (Err stop.End))
+changes_no_size load o out r e is none s = changes_as (Fills 4 r o out) (Parses (size load) (Err stop.End)) (λ x y w. no_size load o out x y e none (subst (λ (r : Result Bool PacketError). Fills 4 r o out x y) is w)) s
 
 short_size : (load : ℕ) (o out x y : List ℕ) → o ≡ [] → (out ≡ [] → ⊥) → Fills 4 (Ok false) o out x y → size load x ≡ refused PrematureHeader y
 short_size load o out x y e some f = ap (λ q. size load q) (all_of out x y (front_of o out x y e f.moves) f.filled.1) ∙ size_short load out some f.filled.0 ∙ ap (λ q. refused PrematureHeader q) (sym f.filled.1)
 
-pub told_short_size : (load : ℕ) (o out : List ℕ) (r : Result Bool PacketError) (l l' : Option (List ℕ)) (m : ℕ) → o ≡ [] → r ≡ Ok false → (out ≡ [] → ⊥) → Told l l' m (Fills 4 r o out) → Told l l' m (Reads (size load) (Err (stop.Refused PrematureHeader)))
-told_short_size load o out r l l' m e is some s = told_as (Fills 4 r o out) (Reads (size load) (Err (stop.Refused PrematureHeader))) l l' m (λ x y f. short_size load o out x y e some (subst (λ (r : Result Bool PacketError). Fills 4 r o out x y) is f)) s
+pub changes_short_size : {X : Type 0} {t : X → Option (List ℕ)} {k : X → List Record} {h f : X → ℕ} {a b : X} (load : ℕ) (o out : List ℕ) (r : Result Bool PacketError) → o ≡ [] → r ≡ Ok false → (out ≡ [] → ⊥) → ChangesBytes t k h f a b (Fills 4 r o out) → ChangesBytes t k h f a b (Parses (size load) (Err (stop.Refused PrematureHeader)))
+changes_short_size load o out r e is some s = changes_as (Fills 4 r o out) (Parses (size load) (Err (stop.Refused PrematureHeader))) (λ x y w. short_size load o out x y e some (subst (λ (r : Result Bool PacketError). Fills 4 r o out x y) is w)) s
 
-fault_size : (load : ℕ) (o out x y : List ℕ) (e : PacketError) → o ≡ [] → Fills 4 (Err e) o out x y → Reads (size load) (Err (stop_of e)) x y
+fault_size : (load : ℕ) (o out x y : List ℕ) (e : PacketError) → o ≡ [] → Fills 4 (Err e) o out x y → Parses (size load) (Err (stop_of e)) x y
 fault_size load o out x y fault.ReadFault n f = (out, front_of o out x y n f.moves, size_open load out f.filled)
-fault_size load o out x y fault.Memory n f = tt
+fault_size load o out x y fault.Memory n f = (out, front_of o out x y n f.moves)
 
-pub told_fault_size : (load : ℕ) (o out : List ℕ) (r : Result Bool PacketError) (e : PacketError) (l l' : Option (List ℕ)) (m : ℕ) → o ≡ [] → r ≡ Err e → Told l l' m (Fills 4 r o out) → Told l l' m (Reads (size load) (Err (stop_of e)))
-told_fault_size load o out r e l l' m n is s = told_as (Fills 4 r o out) (Reads (size load) (Err (stop_of e))) l l' m (λ x y f. fault_size load o out x y e n (subst (λ (r : Result Bool PacketError). Fills 4 r o out x y) is f)) s
+pub changes_fault_size : {X : Type 0} {t : X → Option (List ℕ)} {k : X → List Record} {h f : X → ℕ} {a b : X} (load : ℕ) (o out : List ℕ) (r : Result Bool PacketError) (e : PacketError) → o ≡ [] → r ≡ Err e → ChangesBytes t k h f a b (Fills 4 r o out) → ChangesBytes t k h f a b (Parses (size load) (Err (stop_of e)))
+changes_fault_size load o out r e n is s = changes_as (Fills 4 r o out) (Parses (size load) (Err (stop_of e))) (λ x y w. fault_size load o out x y e n (subst (λ (r : Result Bool PacketError). Fills 4 r o out x y) is w)) s
 
 -- A body.
 
 taken_front : (n : ℕ) (b more : List ℕ) → length b ≡ n → (take n (b ++ more) ≡ b) × (drop n (b ++ more) ≡ more)
 taken_front n b more e = (grind (arith, common_steps), grind (arith, common_steps))
 
-pub body_whole : (n : ℕ) (b more : List ℕ) → length b ≡ n → body n (b ++ more) ≡ holds b more
+pub body_whole : (n : ℕ) (b more : List ℕ) → length b ≡ n → packet_body n (b ++ more) ≡ holds b more
 body_whole n b more e =
     let t : nat_lt (length (b ++ more)) n ≡ false = grind (arith, common_steps, nat_tests) in
     let f = taken_front n b more e in
     rw (t, f.0, f.1) refl
 
-body_short : (n : ℕ) (b : List ℕ) → length b < n → body n b ≡ refused PrematureBody []
+body_short : (n : ℕ) (b : List ℕ) → length b < n → packet_body n b ≡ refused PrematureBody []
 body_short n b e =
     let t : nat_lt (length b) n ≡ true = grind (arith, nat_tests) in
     rw t refl
 
-takes_body : (n : ℕ) (o out x y : List ℕ) → o ≡ [] → Fills n (Ok true) o out x y → Takes (body n) out x y
+takes_body : (n : ℕ) (o out x y : List ℕ) → o ≡ [] → Fills n (Ok true) o out x y → Takes (packet_body n) out x y
 takes_body n o out x y e f = (out, front_of o out x y e f.moves, λ more. body_whole n out more f.filled)
 
-pub told_body : (n : ℕ) (q : Result Tree Stop) (o out : List ℕ) (r : Result Bool PacketError) (l l' : Option (List ℕ)) (m : ℕ) → o ≡ [] → r ≡ Ok true → Judges (dumped (dump_of out)) q → Told l l' m (Fills n r o out) → Told l l' m (Reads (loaded n) q)
-told_body n q o out r l l' m e is j s =
-    told_judged (body n) (λ b. dumped (dump_of b)) out q l l' m
-    (told_as (Fills n r o out) (Reads (body n) (Ok out)) l l' m (λ x y f. takes_body n o out x y e (subst (λ (r : Result Bool PacketError). Fills n r o out x y) is f)) s) j
+pub changes_body : {X : Type 0} {t : X → Option (List ℕ)} {k : X → List Record} {h f : X → ℕ} {a b : X} (n : ℕ) (q : Result Tree Stop) (o out : List ℕ) (r : Result Bool PacketError) → o ≡ [] → r ≡ Ok true → Judges (dumped (dump_of out)) q → ChangesBytes t k h f a b (Fills n r o out) → ChangesBytes t k h f a b (Parses (loaded n) q)
+changes_body n q o out r e is j s =
+    changes_judged (packet_body n) (λ b. dumped (dump_of b)) out q
+    (changes_as (Fills n r o out) (Parses (packet_body n) (Ok out)) (λ x y w. takes_body n o out x y e (subst (λ (r : Result Bool PacketError). Fills n r o out x y) is w)) s) j
 
-short_body : (n : ℕ) (o out x y : List ℕ) → o ≡ [] → Fills n (Ok false) o out x y → body n x ≡ refused PrematureBody y
-short_body n o out x y e f = ap (λ q. body n q) (all_of out x y (front_of o out x y e f.moves) f.filled.1) ∙ body_short n out f.filled.0 ∙ ap (λ q. refused PrematureBody q) (sym f.filled.1)
+short_body : (n : ℕ) (o out x y : List ℕ) → o ≡ [] → Fills n (Ok false) o out x y → packet_body n x ≡ refused PrematureBody y
+short_body n o out x y e f = ap (λ q. packet_body n q) (all_of out x y (front_of o out x y e f.moves) f.filled.1) ∙ body_short n out f.filled.0 ∙ ap (λ q. refused PrematureBody q) (sym f.filled.1)
 
-pub told_short_body : (n : ℕ) (o out : List ℕ) (r : Result Bool PacketError) (l l' : Option (List ℕ)) (m : ℕ) → o ≡ [] → r ≡ Ok false → Told l l' m (Fills n r o out) → Told l l' m (Reads (loaded n) (Err (stop.Refused PrematureBody)))
-told_short_body n o out r l l' m e is s =
-    told_stop (body n) (λ b. dumped (dump_of b)) (stop.Refused PrematureBody) l l' m
-    (told_as (Fills n r o out) (Reads (body n) (Err (stop.Refused PrematureBody))) l l' m (λ x y f. short_body n o out x y e (subst (λ (r : Result Bool PacketError). Fills n r o out x y) is f)) s)
+pub changes_short_body : {X : Type 0} {t : X → Option (List ℕ)} {k : X → List Record} {h f : X → ℕ} {a b : X} (n : ℕ) (o out : List ℕ) (r : Result Bool PacketError) → o ≡ [] → r ≡ Ok false → ChangesBytes t k h f a b (Fills n r o out) → ChangesBytes t k h f a b (Parses (loaded n) (Err (stop.Refused PrematureBody)))
+changes_short_body n o out r e is s =
+    changes_stop (packet_body n) (λ b. dumped (dump_of b)) (stop.Refused PrematureBody)
+    (changes_as (Fills n r o out) (Parses (packet_body n) (Err (stop.Refused PrematureBody))) (λ x y w. short_body n o out x y e (subst (λ (r : Result Bool PacketError). Fills n r o out x y) is w)) s)
 
-fault_body : (n : ℕ) (o out x y : List ℕ) (e : PacketError) → o ≡ [] → Fills n (Err e) o out x y → Reads (body n) (Err (stop_of e)) x y
+fault_body : (n : ℕ) (o out x y : List ℕ) (e : PacketError) → o ≡ [] → Fills n (Err e) o out x y → Parses (packet_body n) (Err (stop_of e)) x y
 fault_body n o out x y fault.ReadFault z f = (out, front_of o out x y z f.moves, ap is_open (body_short n out f.filled))
-fault_body n o out x y fault.Memory z f = tt
+fault_body n o out x y fault.Memory z f = (out, front_of o out x y z f.moves)
 
-pub told_fault_body : (n : ℕ) (o out : List ℕ) (r : Result Bool PacketError) (e : PacketError) (l l' : Option (List ℕ)) (m : ℕ) → o ≡ [] → r ≡ Err e → Told l l' m (Fills n r o out) → Told l l' m (Reads (loaded n) (Err (stop_of e)))
-told_fault_body n o out r e l l' m z is s =
-    told_stop (body n) (λ b. dumped (dump_of b)) (stop_of e) l l' m
-    (told_as (Fills n r o out) (Reads (body n) (Err (stop_of e))) l l' m (λ x y f. fault_body n o out x y e z (subst (λ (r : Result Bool PacketError). Fills n r o out x y) is f)) s)
+pub changes_fault_body : {X : Type 0} {t : X → Option (List ℕ)} {k : X → List Record} {h f : X → ℕ} {a b : X} (n : ℕ) (o out : List ℕ) (r : Result Bool PacketError) (e : PacketError) → o ≡ [] → r ≡ Err e → ChangesBytes t k h f a b (Fills n r o out) → ChangesBytes t k h f a b (Parses (loaded n) (Err (stop_of e)))
+changes_fault_body n o out r e z is s =
+    changes_stop (packet_body n) (λ b. dumped (dump_of b)) (stop_of e)
+    (changes_as (Fills n r o out) (Parses (packet_body n) (Err (stop_of e))) (λ x y w. fault_body n o out x y e z (subst (λ (r : Result Bool PacketError). Fills n r o out x y) is w)) s)
 
 -- A dump in a body.
 
@@ -151,10 +152,10 @@ dumped_refusal bytes f h rest = ap (λ r. dumped r rest) ((reads_refusals bytes 
 
 -- A packet.
 
-pub packet_then : (load n : ℕ) (r : Result Tree Stop) (l l' l'' : Option (List ℕ)) (m k : ℕ) → m ≤ k → Told l l' m (Reads (size load) (Ok n)) → Told l' l'' k (Reads (loaded n) r) → Told l l'' k (Reads (packet load) r)
+pub packet_then : {X : Type 0} {t : X → Option (List ℕ)} {k : X → List Record} {h f : X → ℕ} {a b c : X} (load n : ℕ) (r : Result Tree Stop) → ChangesBytes t k h f a b (Parses (size load) (Ok n)) → ChangesBytes t k h f b c (Parses (loaded n) r) → ChangesBytes t k h f a c (Parses (packet load) r)
 unfolding packet
-packet_then load n r l l' l'' m k le s t = told_then (size load) loaded n r l l' l'' m k le s t
+packet_then load n r s u = changes_then (size load) loaded n r s u
 
-pub packet_stop : (load : ℕ) (e : Stop) (l l' : Option (List ℕ)) (m : ℕ) → Told l l' m (Reads (size load) (Err e)) → Told l l' m (Reads (packet load) (Err e))
+pub packet_stop : {X : Type 0} {t : X → Option (List ℕ)} {k : X → List Record} {h f : X → ℕ} {a b : X} (load : ℕ) (e : Stop) → ChangesBytes t k h f a b (Parses (size load) (Err e)) → ChangesBytes t k h f a b (Parses (packet load) (Err e))
 unfolding packet
-packet_stop load e l l' m s = told_stop (size load) loaded e l l' m s
+packet_stop load e s = changes_stop (size load) loaded e s

@@ -8,3 +8,5 @@ pub mod Giving
 pub mod Wholes
 pub mod Nodes
 pub mod Chains
+pub mod Cutting
+pub mod Opening

@@ -1,5 +1,5 @@
 pub mod Stops
-pub mod Fronts
+pub mod Parsers
 pub mod Packets
 pub mod Requests
 pub mod Replies
@@ -7,3 +7,4 @@ pub mod Texts
 pub mod Reads
 pub mod Writes
 pub mod Laws
+pub mod Cuts

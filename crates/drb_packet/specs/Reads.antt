@@ -1,4 +1,4 @@
--- What a reading takes and answers.
+-- What a reading takes off a source, and answers.
 use Rattle.std.specs.Prelude.{◌≡◌, ℕ, ◌<◌, List, [], ◌++◌, length, Bool, true, false, Ok, Err, IfOk}
 use Rattle.std.specs.declared.result.Result.{Result}
 use Rattle.drb_packet.specs.declared.refusal.PacketError.{PacketError}
@@ -10,42 +10,53 @@ use Rattle.drb_packet.specs.declared.request.Inbound.{Inbound}
 use Rattle.drb_packet.specs.declared.request.Inbound.TheVariants as inbound
 use Rattle.drb_packet.specs.declared.reply.Reply.{Reply}
 use Rattle.drb_packet.specs.declared.reply.Reply.TheVariants as reply
-use Rattle.drb_packet.specs.Fronts.{Front, holds, ended, refused, Reading, is_open}
+use Rattle.drb_packet.specs.Parsers.{holds, ended, refused, Parser, is_open}
 use Rattle.drb_packet.specs.Requests.{next_request}
 use Rattle.drb_packet.specs.Replies.{next_reply}
 
--- The bytes before and after, by the answer. End: there were none. A request or a refusal: it stands first in the bytes
--- that were there, and what is left is what is behind it. After a read fault the bytes that were taken don't decide what
--- stands first.
-abbrev pub ReadsRequest : Limits → Result Inbound PacketError → List ℕ → List ℕ → Type 0
-ReadsRequest limits (Ok inbound.End) left left' = (left ≡ []) × (left' ≡ [])
-ReadsRequest limits (Ok (inbound.Request request)) left left' = next_request limits left ≡ holds request left'
-ReadsRequest limits (Ok (inbound.Refused why)) left left' = next_request limits left ≡ refused why left'
-ReadsRequest limits (Err fault.ReadFault) left left' = (taken : List ℕ) × (left ≡ taken ++ left') × (is_open (next_request limits taken) ≡ true)
-ReadsRequest limits (Err fault.Memory) left left' = Unit {0}
+-- What stands first in the bytes that were there, by the answer. End: there were none. A request or a refusal: it stands
+-- first, and what is left is what is behind it. After a read fault the bytes that were taken don't decide what stands
+-- first. Want of memory says nothing.
+abbrev pub SaysRequest : Limits → Result Inbound PacketError → List ℕ → List ℕ → List ℕ → Type 0
+SaysRequest limits (Ok inbound.End) taken left left' = (left ≡ []) × (left' ≡ [])
+SaysRequest limits (Ok (inbound.Request request)) taken left left' = next_request limits left ≡ holds request left'
+SaysRequest limits (Ok (inbound.Refused why)) taken left left' = next_request limits left ≡ refused why left'
+SaysRequest limits (Err fault.ReadFault) taken left left' = is_open (next_request limits taken) ≡ true
+SaysRequest limits (Err fault.Memory) taken left left' = Unit {0}
+
+-- At every answer what is left are the bytes that were there without those that were taken off their front.
+pub record ReadsRequest (limits : Limits) (r : Result Inbound PacketError) (left left' : List ℕ) : Type 0 where
+  pub taken : List ℕ
+  pub front : left ≡ taken ++ left'
+  pub says : SaysRequest limits r taken left left'
 
 -- the same of a reply
-abbrev pub ReadsReply : Limits → Result Reply PacketError → List ℕ → List ℕ → Type 0
-ReadsReply limits (Ok reply.End) left left' = (left ≡ []) × (left' ≡ [])
-ReadsReply limits (Ok (reply.Reply ok value)) left left' = next_reply limits.load left ≡ holds (ok, value) left'
-ReadsReply limits (Ok (reply.Refused why)) left left' = next_reply limits.load left ≡ refused why left'
-ReadsReply limits (Err fault.ReadFault) left left' = (taken : List ℕ) × (left ≡ taken ++ left') × (is_open (next_reply limits.load taken) ≡ true)
-ReadsReply limits (Err fault.Memory) left left' = Unit {0}
+abbrev pub SaysReply : Limits → Result Reply PacketError → List ℕ → List ℕ → List ℕ → Type 0
+SaysReply limits (Ok reply.End) taken left left' = (left ≡ []) × (left' ≡ [])
+SaysReply limits (Ok (reply.Reply ok value)) taken left left' = next_reply limits.load left ≡ holds (ok, value) left'
+SaysReply limits (Ok (reply.Refused why)) taken left left' = next_reply limits.load left ≡ refused why left'
+SaysReply limits (Err fault.ReadFault) taken left left' = is_open (next_reply limits.load taken) ≡ true
+SaysReply limits (Err fault.Memory) taken left left' = Unit {0}
+
+pub record ReadsReply (limits : Limits) (r : Result Reply PacketError) (left left' : List ℕ) : Type 0 where
+  pub taken : List ℕ
+  pub front : left ≡ taken ++ left'
+  pub says : SaysReply limits r taken left left'
 
 -- exactly these bytes were taken, and whatever follows them, this stands first
-abbrev pub Takes : {A : Type 0} → Reading A → A → List ℕ → List ℕ → Type 0
+abbrev pub Takes : {A : Type 0} → Parser A → A → List ℕ → List ℕ → Type 0
 Takes p a left left' = (taken : List ℕ) × (left ≡ taken ++ left') × ((more : List ℕ) → p (taken ++ more) ≡ holds a more)
 
--- one step of a reading
-abbrev pub Reads : {A : Type 0} → Reading A → Result A Stop → List ℕ → List ℕ → Type 0
-Reads p (Ok a) left left' = Takes p a left left'
-Reads p (Err stop.End) left left' = (p left ≡ ended) × (left' ≡ [])
-Reads p (Err (stop.Refused why)) left left' = p left ≡ refused why left'
-Reads p (Err stop.ReadFault) left left' = (taken : List ℕ) × (left ≡ taken ++ left') × (is_open (p taken) ≡ true)
-Reads p (Err stop.Memory) left left' = Unit {0}
+-- A step of a reading. Want of memory says only that a front was taken.
+abbrev pub Parses : {A : Type 0} → Parser A → Result A Stop → List ℕ → List ℕ → Type 0
+Parses p (Ok a) left left' = Takes p a left left'
+Parses p (Err stop.End) left left' = (p left ≡ ended) × (left' ≡ [])
+Parses p (Err (stop.Refused why)) left left' = p left ≡ refused why left'
+Parses p (Err stop.ReadFault) left left' = (taken : List ℕ) × (left ≡ taken ++ left') × (is_open (p taken) ≡ true)
+Parses p (Err stop.Memory) left left' = (taken : List ℕ) × (left ≡ taken ++ left')
 
 -- what a step answers without a read
-abbrev pub Judges : {A : Type 0} → Reading A → Result A Stop → Type 0
+abbrev pub Judges : {A : Type 0} → Parser A → Result A Stop → Type 0
 Judges p (Ok a) = (rest : List ℕ) → p rest ≡ holds a rest
 Judges p (Err stop.End) = ⊥
 Judges p (Err (stop.Refused why)) = (rest : List ℕ) → p rest ≡ refused why rest

@@ -1,7 +1,8 @@
 //! Bytes off a source, in whatever pieces it gives.
 
 ghost use Rattle.std.specs.Prelude.{◌≡◌, ◌≤◌, ◌<◌, ◌+◌, vec_len, IfOk, OnErr, IsErrOf, IsTrue};
-ghost use Rattle.drb_outside.specs.Told.{Told, Rose};
+ghost use Rattle.drb_outside.specs.Told.{Rose};
+ghost use Rattle.drb_outside.specs.Changes.{ChangesBytes};
 ghost use Rattle.drb_packet.specs.Reads.{Fills, ReadsMore};
 
 use crate::PacketError;
@@ -17,11 +18,10 @@ fn read_more<S: Source>(
     room: usize,
 ) -> Result<usize, PacketError>
     requires { 0 < room }
-    ensures bytes { Told (S.left source.old) (S.left source.new) (S.faults source.new) (ReadsMore result out.old.items out.new.items) }
+    ensures source { ChangesBytes S.left S.stays S.holds S.faults source.old source.new
+        (ReadsMore result out.old.items out.new.items) }
     ensures bound { IfOk result (λ n. (n ≤ room) × (vec_len out.new ≡ vec_len out.old + n)) }
     ensures same { OnErr result (vec_len out.new ≡ vec_len out.old) }
-    ensures stays { Told (S.left source.old) (S.left source.new) (S.faults source.new) (λ _ _. S.stays source.new ≡ S.stays source.old) }
-    ensures later { S.faults source.old ≤ S.faults source.new }
     ensures failed { IsErrOf result PacketError.ReadFault → Rose (S.faults source.old) (S.faults source.new) }
 {
     let room = room.min(CHUNK);
@@ -43,10 +43,9 @@ fn read_more<S: Source>(
 /// are in the list.
 pub fn fill<S: Source>(source: &mut S, out: &mut Vec<u8>, want: usize) -> Result<bool, PacketError>
     requires { vec_len out.old ≤ want }
-    ensures bytes { Told (S.left source.old) (S.left source.new) (S.faults source.new) (Fills want result out.old.items out.new.items) }
+    ensures source { ChangesBytes S.left S.stays S.holds S.faults source.old source.new
+        (Fills want result out.old.items out.new.items) }
     ensures full { IfOk result (λ b. IsTrue b → vec_len out.new ≡ want) }
-    ensures stays { Told (S.left source.old) (S.left source.new) (S.faults source.new) (λ _ _. S.stays source.new ≡ S.stays source.old) }
-    ensures later { S.faults source.old ≤ S.faults source.new }
     ensures failed { IsErrOf result PacketError.ReadFault → Rose (S.faults source.old) (S.faults source.new) }
 {
     while out.len() < want {

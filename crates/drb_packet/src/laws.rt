@@ -1,6 +1,7 @@
 //! What the definitions keep: each function is a theorem, which its contract states.
 
-ghost use Rattle.drb_packet.specs.Laws.{RequestsAnyMore, RepliesAnyMore, RequestsBehind, RepliesBehind, RequestsEnd, RepliesEnd};
+ghost use Rattle.drb_packet.specs.Laws.{RequestsAnyMore, RepliesAnyMore, RequestsUndecided, RepliesUndecided};
+ghost use Rattle.drb_packet.specs.Laws.{RequestsBehind, RepliesBehind, RequestsEnd, RepliesEnd, RequestsCut};
 
 /// What the first bytes decide, they decide whatever follows them.
 ///
@@ -8,6 +9,14 @@ ghost use Rattle.drb_packet.specs.Laws.{RequestsAnyMore, RepliesAnyMore, Request
 pub fn any_more()
     ensures requests { RequestsAnyMore }
     ensures replies { RepliesAnyMore }
+{}
+
+/// Where bytes don't decide what stands first, something else stands first with some further bytes behind them.
+///
+/// Source: docs/WIRE.md, What stands first.
+pub fn undecided()
+    ensures requests { RequestsUndecided }
+    ensures replies { RepliesUndecided }
 {}
 
 /// The bytes behind a request, a reply or a refusal are the end of all the bytes.
@@ -24,4 +33,11 @@ pub fn behind()
 pub fn ends_at_end()
     ensures requests { RequestsEnd }
     ensures replies { RepliesEnd }
+{}
+
+/// The requests of bytes are the one that stands first and then those of the bytes behind it.
+///
+/// Source: docs/WIRE.md, What stands first.
+pub fn cuts()
+    ensures { RequestsCut }
 {}

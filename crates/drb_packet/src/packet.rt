@@ -1,10 +1,11 @@
 //! One packet off a source.
 
 ghost use Rattle.std.specs.Prelude.{◌≡◌, ◌≤◌, ◌<◌, ◌^◌, IfOk, IsErrOf};
-ghost use Rattle.drb_outside.specs.Told.{Told, Rose};
+ghost use Rattle.drb_outside.specs.Told.{Rose};
+ghost use Rattle.drb_outside.specs.Changes.{ChangesBytes};
 ghost use Rattle.marshal_grammar.specs.Dumps.{dump_of};
 ghost use Rattle.drb_packet.specs.Packets.{size, dumped, loaded, packet, further};
-ghost use Rattle.drb_packet.specs.Reads.{Reads, Judges};
+ghost use Rattle.drb_packet.specs.Reads.{Parses, Judges};
 
 use crate::filling::fill;
 use crate::stop::Stop;
@@ -17,9 +18,8 @@ use std::alloc::Global;
 
 /// A size.
 fn read_size<S: Source>(alloc: Global, source: &mut S, load: u32) -> Result<u32, Stop>
-    ensures reads { Told (S.left source.old) (S.left source.new) (S.faults source.new) (Reads (size load) result) }
-    ensures stays { Told (S.left source.old) (S.left source.new) (S.faults source.new) (λ _ _. S.stays source.new ≡ S.stays source.old) }
-    ensures later { S.faults source.old ≤ S.faults source.new }
+    ensures source { ChangesBytes S.left S.stays S.holds S.faults source.old source.new
+        (Parses (size load) result) }
     ensures failed { IsErrOf result Stop.ReadFault → Rose (S.faults source.old) (S.faults source.new) }
 {
     let mut header = Vec::new(alloc);
@@ -51,9 +51,8 @@ fn value_in(alloc: Global, body: &[u8]) -> Result<Value, Stop>
 
 /// A body of this size, and the value that it begins with a dump of.
 fn read_body<S: Source>(alloc: Global, source: &mut S, size: u32) -> Result<Value, Stop>
-    ensures reads { Told (S.left source.old) (S.left source.new) (S.faults source.new) (Reads (loaded size) result) }
-    ensures stays { Told (S.left source.old) (S.left source.new) (S.faults source.new) (λ _ _. S.stays source.new ≡ S.stays source.old) }
-    ensures later { S.faults source.old ≤ S.faults source.new }
+    ensures source { ChangesBytes S.left S.stays S.holds S.faults source.old source.new
+        (Parses (loaded size) result) }
     ensures failed { IsErrOf result Stop.ReadFault → Rose (S.faults source.old) (S.faults source.new) }
 {
     let mut body = Vec::new(alloc);
@@ -65,9 +64,8 @@ fn read_body<S: Source>(alloc: Global, source: &mut S, size: u32) -> Result<Valu
 
 /// The first packet: a size below the limit, and a body of that size.
 pub fn read_packet<S: Source>(alloc: Global, source: &mut S, load: u32) -> Result<Value, Stop>
-    ensures reads { Told (S.left source.old) (S.left source.new) (S.faults source.new) (Reads (packet load) result) }
-    ensures stays { Told (S.left source.old) (S.left source.new) (S.faults source.new) (λ _ _. S.stays source.new ≡ S.stays source.old) }
-    ensures later { S.faults source.old ≤ S.faults source.new }
+    ensures source { ChangesBytes S.left S.stays S.holds S.faults source.old source.new
+        (Parses (packet load) result) }
     ensures failed { IsErrOf result Stop.ReadFault → Rose (S.faults source.old) (S.faults source.new) }
 {
     let size = read_size(alloc, source, load)?;
@@ -76,9 +74,8 @@ pub fn read_packet<S: Source>(alloc: Global, source: &mut S, load: u32) -> Resul
 
 /// A packet that isn't the first, before which the input must not end.
 pub fn read_further<S: Source>(alloc: Global, source: &mut S, load: u32) -> Result<Value, Stop>
-    ensures reads { Told (S.left source.old) (S.left source.new) (S.faults source.new) (Reads (further load) result) }
-    ensures stays { Told (S.left source.old) (S.left source.new) (S.faults source.new) (λ _ _. S.stays source.new ≡ S.stays source.old) }
-    ensures later { S.faults source.old ≤ S.faults source.new }
+    ensures source { ChangesBytes S.left S.stays S.holds S.faults source.old source.new
+        (Parses (further load) result) }
     ensures failed { IsErrOf result Stop.ReadFault → Rose (S.faults source.old) (S.faults source.new) }
 {
     match read_packet(alloc, source, load) {

@@ -1,10 +1,11 @@
 //! Replies off a source.
 
 ghost use Rattle.std.specs.Prelude.{◌≡◌, ◌≤◌, ◌<◌, IfOk, IsErrOf};
-ghost use Rattle.drb_outside.specs.Told.{Told, Rose};
+ghost use Rattle.drb_outside.specs.Told.{Rose};
+ghost use Rattle.drb_outside.specs.Changes.{ChangesBytes};
 ghost use Rattle.drb_value.specs.View.{layer};
 ghost use Rattle.drb_packet.specs.Replies.{truth, next_reply};
-ghost use Rattle.drb_packet.specs.Reads.{Reads, ReadsReply};
+ghost use Rattle.drb_packet.specs.Reads.{Parses, ReadsReply};
 
 use crate::packet::{read_further, read_packet};
 use crate::stop::Stop;
@@ -37,9 +38,8 @@ fn truth_in(node: &Node) -> bool
 
 /// Both packets of a reply.
 fn read_both<S: Source>(alloc: Global, source: &mut S, load: u32) -> Result<(bool, Value), Stop>
-    ensures reads { Told (S.left source.old) (S.left source.new) (S.faults source.new) (Reads (next_reply load) result) }
-    ensures stays { Told (S.left source.old) (S.left source.new) (S.faults source.new) (λ _ _. S.stays source.new ≡ S.stays source.old) }
-    ensures later { S.faults source.old ≤ S.faults source.new }
+    ensures source { ChangesBytes S.left S.stays S.holds S.faults source.old source.new
+        (Parses (next_reply load) result) }
     ensures failed { IsErrOf result Stop.ReadFault → Rose (S.faults source.old) (S.faults source.new) }
 {
     let success = read_packet(alloc, source, load)?;
@@ -52,16 +52,15 @@ fn read_both<S: Source>(alloc: Global, source: &mut S, load: u32) -> Result<(boo
 /// Reads exactly the bytes of that reply, and at a refusal exactly those that it rests on. The first packet means success
 /// unless it is nil or false. Only the refusals of single packets and `CutBetween` come.
 /// Errors: `ReadFault` only where the source's own count of faults rose, and then the bytes that were taken don't decide
-/// what stands first; `Memory` at any time. The input is then read in part.
+/// what stands first; `Memory` at any time. What is left is then what was there without a front.
 /// Source: Ruby's drb.rb, DRbMessage#recv_reply; docs/WIRE.md, Replies.
 pub fn read_reply<S: Source>(
     alloc: Global,
     source: &mut S,
     limits: &Limits,
 ) -> Result<Reply, PacketError>
-    ensures next { Told (S.left source.old) (S.left source.new) (S.faults source.new) (ReadsReply limits.now result) }
-    ensures stays { Told (S.left source.old) (S.left source.new) (S.faults source.new) (λ _ _. S.stays source.new ≡ S.stays source.old) }
-    ensures later { S.faults source.old ≤ S.faults source.new }
+    ensures source { ChangesBytes S.left S.stays S.holds S.faults source.old source.new
+        (ReadsReply limits.now result) }
     ensures failed { IsErrOf result PacketError.ReadFault → Rose (S.faults source.old) (S.faults source.new) }
 {
     match read_both(alloc, source, limits.load) {

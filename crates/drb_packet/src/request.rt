@@ -1,10 +1,11 @@
 //! Requests off a source.
 
 ghost use Rattle.std.specs.Prelude.{◌≡◌, ◌≤◌, ◌<◌, IfOk, IsErrOf};
-ghost use Rattle.drb_outside.specs.Told.{Told, Rose};
+ghost use Rattle.drb_outside.specs.Told.{Rose};
+ghost use Rattle.drb_outside.specs.Changes.{ChangesBytes};
 ghost use Rattle.drb_value.specs.View.{layer};
-ghost use Rattle.drb_packet.specs.Requests.{as_name, as_count, as_block, name, count, values, block, after_name, next_request};
-ghost use Rattle.drb_packet.specs.Reads.{Reads, ReadsRequest, Judges};
+ghost use Rattle.drb_packet.specs.Requests.{as_name, as_count, as_block, method_name, argument_count, arguments, block, after_name, next_request};
+ghost use Rattle.drb_packet.specs.Reads.{Parses, ReadsRequest, Judges};
 
 use crate::packet::{read_further, read_packet};
 use crate::stop::Stop;
@@ -84,9 +85,8 @@ fn block_in(node: Node) -> Result<Option<Remote>, Stop>
 
 /// The packet of the method's name.
 fn read_name<S: Source>(alloc: Global, source: &mut S, load: u32) -> Result<Text, Stop>
-    ensures reads { Told (S.left source.old) (S.left source.new) (S.faults source.new) (Reads (name load) result) }
-    ensures stays { Told (S.left source.old) (S.left source.new) (S.faults source.new) (λ _ _. S.stays source.new ≡ S.stays source.old) }
-    ensures later { S.faults source.old ≤ S.faults source.new }
+    ensures source { ChangesBytes S.left S.stays S.holds S.faults source.old source.new
+        (Parses (method_name load) result) }
     ensures failed { IsErrOf result Stop.ReadFault → Rose (S.faults source.old) (S.faults source.new) }
 {
     let Value { node } = read_further(alloc, source, load)?;
@@ -95,9 +95,8 @@ fn read_name<S: Source>(alloc: Global, source: &mut S, load: u32) -> Result<Text
 
 /// The packet of the count of arguments.
 fn read_count<S: Source>(alloc: Global, source: &mut S, limits: &Limits) -> Result<u32, Stop>
-    ensures reads { Told (S.left source.old) (S.left source.new) (S.faults source.new) (Reads (count limits.now) result) }
-    ensures stays { Told (S.left source.old) (S.left source.new) (S.faults source.new) (λ _ _. S.stays source.new ≡ S.stays source.old) }
-    ensures later { S.faults source.old ≤ S.faults source.new }
+    ensures source { ChangesBytes S.left S.stays S.holds S.faults source.old source.new
+        (Parses (argument_count limits.now) result) }
     ensures failed { IsErrOf result Stop.ReadFault → Rose (S.faults source.old) (S.faults source.new) }
 {
     let Value { node } = read_further(alloc, source, limits.load)?;
@@ -111,9 +110,8 @@ fn read_arguments<S: Source>(
     load: u32,
     count: u32,
 ) -> Result<Items<Value>, Stop>
-    ensures reads { Told (S.left source.old) (S.left source.new) (S.faults source.new) (Reads (values load count) result) }
-    ensures stays { Told (S.left source.old) (S.left source.new) (S.faults source.new) (λ _ _. S.stays source.new ≡ S.stays source.old) }
-    ensures later { S.faults source.old ≤ S.faults source.new }
+    ensures source { ChangesBytes S.left S.stays S.holds S.faults source.old source.new
+        (Parses (arguments load count) result) }
     ensures failed { IsErrOf result Stop.ReadFault → Rose (S.faults source.old) (S.faults source.new) }
 {
     let count = count as usize;
@@ -127,9 +125,8 @@ fn read_arguments<S: Source>(
 
 /// The packet of the block.
 fn read_block<S: Source>(alloc: Global, source: &mut S, load: u32) -> Result<Option<Remote>, Stop>
-    ensures reads { Told (S.left source.old) (S.left source.new) (S.faults source.new) (Reads (block load) result) }
-    ensures stays { Told (S.left source.old) (S.left source.new) (S.faults source.new) (λ _ _. S.stays source.new ≡ S.stays source.old) }
-    ensures later { S.faults source.old ≤ S.faults source.new }
+    ensures source { ChangesBytes S.left S.stays S.holds S.faults source.old source.new
+        (Parses (block load) result) }
     ensures failed { IsErrOf result Stop.ReadFault → Rose (S.faults source.old) (S.faults source.new) }
 {
     let Value { node } = read_further(alloc, source, load)?;
@@ -144,9 +141,8 @@ fn read_call<S: Source>(
     reference: Value,
     name: Text,
 ) -> Result<Request, Stop>
-    ensures reads { Told (S.left source.old) (S.left source.new) (S.faults source.new) (Reads (after_name limits.now reference name) result) }
-    ensures stays { Told (S.left source.old) (S.left source.new) (S.faults source.new) (λ _ _. S.stays source.new ≡ S.stays source.old) }
-    ensures later { S.faults source.old ≤ S.faults source.new }
+    ensures source { ChangesBytes S.left S.stays S.holds S.faults source.old source.new
+        (Parses (after_name limits.now reference name) result) }
     ensures failed { IsErrOf result Stop.ReadFault → Rose (S.faults source.old) (S.faults source.new) }
 {
     let count = read_count(alloc, source, limits)?;
@@ -162,9 +158,8 @@ fn read_call<S: Source>(
 
 /// All the packets of a request.
 fn read_packets<S: Source>(alloc: Global, source: &mut S, limits: &Limits) -> Result<Request, Stop>
-    ensures reads { Told (S.left source.old) (S.left source.new) (S.faults source.new) (Reads (next_request limits.now) result) }
-    ensures stays { Told (S.left source.old) (S.left source.new) (S.faults source.new) (λ _ _. S.stays source.new ≡ S.stays source.old) }
-    ensures later { S.faults source.old ≤ S.faults source.new }
+    ensures source { ChangesBytes S.left S.stays S.holds S.faults source.old source.new
+        (Parses (next_request limits.now) result) }
     ensures failed { IsErrOf result Stop.ReadFault → Rose (S.faults source.old) (S.faults source.new) }
 {
     let reference = read_packet(alloc, source, limits.load)?;
@@ -177,16 +172,15 @@ fn read_packets<S: Source>(alloc: Global, source: &mut S, limits: &Limits) -> Re
 /// Reads exactly the bytes of that request, and at a refusal exactly those that it rests on. The refusal is the first in
 /// the order of the bytes. The body of a packet takes memory as its bytes come.
 /// Errors: `ReadFault` only where the source's own count of faults rose, and then the bytes that were taken don't decide
-/// what stands first; `Memory` at any time. The input is then read in part.
+/// what stands first; `Memory` at any time. What is left is then what was there without a front.
 /// Source: Ruby's drb.rb, DRbMessage#recv_request; docs/WIRE.md, Requests.
 pub fn read_request<S: Source>(
     alloc: Global,
     source: &mut S,
     limits: &Limits,
 ) -> Result<Inbound, PacketError>
-    ensures next { Told (S.left source.old) (S.left source.new) (S.faults source.new) (ReadsRequest limits.now result) }
-    ensures stays { Told (S.left source.old) (S.left source.new) (S.faults source.new) (λ _ _. S.stays source.new ≡ S.stays source.old) }
-    ensures later { S.faults source.old ≤ S.faults source.new }
+    ensures source { ChangesBytes S.left S.stays S.holds S.faults source.old source.new
+        (ReadsRequest limits.now result) }
     ensures failed { IsErrOf result PacketError.ReadFault → Rose (S.faults source.old) (S.faults source.new) }
 {
     match read_packets(alloc, source, limits) {

@@ -94,7 +94,7 @@ fn put_request(to: &RefId, name: &[u8], args: &[Value], out: &mut Vec<u8>) -> Re
 
 /// Appends the text of a request: its method's name in US-ASCII, and no block.
 ///
-/// The name is ASCII, and there are at most 256 arguments.
+/// The name is ASCII, which `drb_tree`'s `all_ascii` tests, and there are at most 256 arguments.
 /// Errors: `TooLong` exactly where the dump of one of its packets has more than 2^30 - 1 bytes; `Memory` at any time. At
 /// an error `out` has the bytes that it had; only its capacity may have grown.
 /// Source: Ruby's drb.rb, DRbMessage#send_request; docs/WIRE.md, Requests.

@@ -3,7 +3,7 @@ use Rattle.std.specs.Prelude.{ℕ, List, length, Bool, is_some}
 use Rattle.drb_tree.specs.declared.Tree.{Tree}
 use Rattle.drb_packet.specs.declared.request.Limits.{Limits}
 use Rattle.drb_packet.specs.declared.request.Request.{Request}
-use Rattle.drb_packet.specs.Fronts.{Front, holds, ended, refused}
+use Rattle.drb_packet.specs.Parsers.{Parsed, holds, ended, refused}
 use Rattle.drb_packet.specs.Requests.{next_request}
 use Rattle.drb_packet.specs.Replies.{next_reply}
 use Rattle.packet_show.specs.declared.seen.Kind.{Kind}
@@ -21,13 +21,13 @@ abbrev pub call_shown : Request → Call
 call_shown r = record { name = r.name.bytes; arguments = length r.args; block = is_some r.block }
 
 -- a request, the end or a refusal, and how many bytes are behind it
-abbrev pub request_shown : Front Request → Seen
+abbrev pub request_shown : Parsed Request → Seen
 request_shown (holds r rest) = seen.Request (call_shown r) (length rest)
 request_shown ended = seen.End
 request_shown (refused why rest) = seen.Refused why (length rest)
 
 -- the same of a reply, of which only success is shown
-abbrev pub reply_shown : Front (Bool × Tree) → Seen
+abbrev pub reply_shown : Parsed (Bool × Tree) → Seen
 reply_shown (holds r rest) = seen.Reply r.0 (length rest)
 reply_shown ended = seen.End
 reply_shown (refused why rest) = seen.Refused why (length rest)

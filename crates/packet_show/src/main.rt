@@ -1,12 +1,14 @@
 //! Shows what stands first in bytes: a request, a reply, why it is neither, or nothing.
 //!
 //! The program reads lines from standard input, each `request` or `reply` and bytes in hexadecimal, and prints a line for
-//! each: of a request the method's name, the number of arguments and whether there is a block; of a reply whether the
-//! call succeeded; else the text of the refusal; and how many bytes are left behind it. It reads the bytes in pieces of 1,
-//! 2, 3 and 4,096. It stands on `drb_packet`, and promises that what it shows is what stands first, in whatever pieces the
-//! bytes come. `peer/packets.sh` runs it on what a real Ruby sent. Read `seen.rt` for what is promised.
+//! each: of a request the method's name with its control bytes escaped, the number of arguments and whether there is a
+//! block; of a reply whether the call succeeded; else the text of the refusal; and how many bytes are left behind it. It
+//! reads the bytes in pieces of 1, 2, 3 and 4,096. It stands on `drb_packet`, and promises that what it shows is what
+//! stands first, in whatever pieces the bytes come. `peer/packets.sh` runs it on what a real Ruby sent. Read `seen.rt`
+//! and `names.rt` for what is promised.
 #![tactic(auto)]
 
+mod names;
 mod pieces;
 mod seen;
 
@@ -17,7 +19,8 @@ use std::io::{BufRead, BufReader};
 
 /// Prints a request.
 fn show_call(rt: &impl Print, alloc: Global, call: &Call, left: usize) -> io::Result<()> {
-    let name = String::from_utf8_lossy(alloc, call.name.as_slice())?;
+    let name = names::escaped(alloc, call.name.as_slice())?;
+    let name = String::from_utf8_lossy(alloc, name.as_slice())?;
     let block = if call.block { "block" } else { "no block" };
     println!(rt; "request {name} {} {block}, {left} left", call.arguments)
 }

@@ -1,8 +1,19 @@
-use Rattle.drb_packet.proofs.Wholes.{told_reply, told_no_reply}
+use Rattle.std.specs.Prelude.{Ok, Err}
+use Rattle.drb_packet.specs.declared.stop.Stop.TheVariants as stop
+use Rattle.drb_packet.proofs.Wholes.{changes_reply}
 use Rattle.drb_packet.proofs.reply.read_reply.Goals as goal
 
-pub returns-in-Ok-clause-next : goal.returns-in-Ok-clause-next
-returns-in-Ok-clause-next g c = told_reply c.args.limits.now c.in-Ok.ok c.in-Ok.value _ _ _ c.in-Ok.ensures.reads
+pub returns-in-Ok-clause-source : goal.returns-in-Ok-clause-source
+returns-in-Ok-clause-source g c = changes_reply c.args.limits.now (Ok (c.in-Ok.ok, c.in-Ok.value)) c.in-Ok.ensures.source
 
-pub returns-in-Err-End-clause-next : goal.returns-in-Err-End-clause-next
-returns-in-Err-End-clause-next g c = told_no_reply c.args.limits.now _ _ _ (rw c.in-Err-End.field-0-is at c.in-Err-End.ensures.reads)
+pub returns-in-Err-End-clause-source : goal.returns-in-Err-End-clause-source
+returns-in-Err-End-clause-source g c = changes_reply c.args.limits.now (Err stop.End) (rw c.in-Err-End.field-0-is at c.in-Err-End.ensures.source)
+
+pub returns-in-Err-Refused-clause-source : goal.returns-in-Err-Refused-clause-source
+returns-in-Err-Refused-clause-source g c = changes_reply c.args.limits.now (Err (stop.Refused c.in-Err-Refused.why)) (rw c.in-Err-Refused.field-0-is at c.in-Err-Refused.ensures.source)
+
+pub returns-in-Err-ReadFault-clause-source : goal.returns-in-Err-ReadFault-clause-source
+returns-in-Err-ReadFault-clause-source g c = changes_reply c.args.limits.now (Err stop.ReadFault) (rw c.in-Err-ReadFault.field-0-is at c.in-Err-ReadFault.ensures.source)
+
+pub returns-in-Err-Memory-clause-source : goal.returns-in-Err-Memory-clause-source
+returns-in-Err-Memory-clause-source g c = changes_reply c.args.limits.now (Err stop.Memory) (rw c.in-Err-Memory.field-0-is at c.in-Err-Memory.ensures.source)
