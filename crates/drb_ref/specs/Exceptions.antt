@@ -1,4 +1,4 @@
--- An exception of Ruby as a value: docs/WIRE.md, References, uris and exceptions.
+-- An exception of Ruby as a value: docs/WIRE.md, Exceptions.
 use Rattle.std.specs.Prelude.{ℕ, List, [], ◌∷◌, codes}
 use Rattle.drb_tree.specs.declared.Code.TheVariants.{Utf8}
 use Rattle.drb_tree.specs.declared.Tree.{Tree}

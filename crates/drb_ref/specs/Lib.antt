@@ -1,3 +1,4 @@
 pub mod Uris
 pub mod Exceptions
+pub mod Causes
 pub mod Blocks

@@ -7,7 +7,7 @@ ghost use Rattle.marshal_grammar.specs.declared.refusal.Why.{Why};
 ghost use Rattle.marshal_grammar.specs.declared.refusal.Refusal.{Refusal};
 ghost use Rattle.marshal_grammar.specs.Spelled.{spelled};
 ghost use Rattle.marshal_write.specs.Limits.{max_dump};
-ghost use Rattle.drb_ref.specs.Blocks.{array_class, ForBlock, IsTooLong, IsList, Holds, DumpsList, RefusesArray};
+ghost use Rattle.drb_ref.specs.Blocks.{array_class, ForBlock, IsTooLong, IsList, Holds, DumpsList, IsListIn, RefusesArray, refused_as, IsOrLacksMemory};
 
 use crate::exceptions::ascii_name;
 use drb_value::{Dumped, FieldList, Items, Node, Value};
@@ -19,7 +19,7 @@ use std::alloc::{AllocError, Global};
 /// What a block is sent for a value: of an array a `DRb::DRbArray` that holds its dump, of every other value a copy.
 ///
 /// Errors: `TooLong` exactly where the value is an array whose dump is longer than a dump may be; `Memory` at any time.
-/// Source: Ruby's drb.rb, DRbArray#_dump; docs/WIRE.md, References, uris and exceptions.
+/// Source: Ruby's drb.rb, DRbArray#_dump; docs/WIRE.md, Arrays for blocks.
 pub fn array_for_block(alloc: Global, v: &Value) -> Result<Value, WriteError>
     ensures sent { IfOk result (λ w. ForBlock v.now w) }
     ensures within { OnOk result (IsTooLong v.now → ⊥) }
@@ -58,13 +58,16 @@ fn holding(alloc: Global, bytes: &[u8]) -> Result<Value, AllocError>
 /// Errors: `Refused` exactly where a `DRb::DRbArray` holds bytes that are refused as a dump, for that reason at that place, or
 /// bytes that begin with the dump of something else than an array: `BadType` of its type byte, at 2. `Memory` at any time that
 /// a `DRb::DRbArray` is read.
-/// Source: Ruby's drb.rb, DRbArray._load; docs/WIRE.md, References, uris and exceptions.
+/// Source: Ruby's drb.rb, DRbArray._load; docs/WIRE.md, Arrays for blocks.
 pub fn array_from_block(alloc: Global, v: Value) -> Result<Value, ReadError>
     ensures other { ((bytes : List ℕ) → Holds v bytes → ⊥) → result ≡ Ok v }
-    ensures list { (bytes : List ℕ) → Holds v bytes → IfOk result (λ w. (items : List Tree) × (w ≡ list_tree items) × DumpsList bytes items) }
-    ensures every_list { (bytes : List ℕ) (items : List Tree) → Holds v bytes → DumpsList bytes items → (result ≡ Ok (list_tree items)) ⊎ (result ≡ Err ReadError.Memory) }
-    ensures refusal { (f : Refusal) → result ≡ Err (ReadError.Refused f) → (bytes : List ℕ) × Holds v bytes × RefusesArray bytes f.why f.at }
-    ensures every_refusal { (bytes : List ℕ) (why : Why) (at : ℕ) → Holds v bytes → RefusesArray bytes why at → (result ≡ Err (ReadError.Refused (record { why = why; at = at }))) ⊎ (result ≡ Err ReadError.Memory) }
+    ensures list { (bytes : List ℕ) → Holds v bytes → IfOk result (λ w. IsListIn bytes w) }
+    ensures every_list { (bytes : List ℕ) (items : List Tree) → Holds v bytes
+        → DumpsList bytes items → IsOrLacksMemory (Ok (list_tree items)) result }
+    ensures refusal { (f : Refusal) → result ≡ Err (ReadError.Refused f)
+        → (bytes : List ℕ) × Holds v bytes × RefusesArray bytes f.why f.at }
+    ensures every_refusal { (bytes : List ℕ) (why : Why) (at : ℕ) → Holds v bytes
+        → RefusesArray bytes why at → IsOrLacksMemory (refused_as why at) result }
 {
     match held(&v) {
         Some(bytes) => read_array(alloc, bytes),
@@ -80,7 +83,8 @@ fn is_list(v: &Value) -> bool
 
 /// The bytes that a `DRb::DRbArray` holds; None of every other value.
 fn held(v: &Value) -> Option<&[u8]>
-    ensures { MatchOption result ((bytes : List ℕ) → Holds v.now bytes → ⊥) (λ b. Holds v.now b.now) }
+    ensures { MatchOption result ((bytes : List ℕ) → Holds v.now bytes → ⊥)
+        (λ b. Holds v.now b.now) }
 {
     match &v.node {
         Node::Dumped(dumped) => held_by(dumped.get()),
@@ -89,7 +93,8 @@ fn held(v: &Value) -> Option<&[u8]>
 }
 
 fn held_by(dumped: &Dumped) -> Option<&[u8]>
-    ensures { MatchOption result (dumped.now.0 ≡ array_class → ⊥) (λ b. (dumped.now.0 ≡ array_class) × (b.now ≡ dumped.now.1)) }
+    ensures { MatchOption result (dumped.now.0 ≡ array_class → ⊥)
+        (λ b. (dumped.now.0 ≡ array_class) × (b.now ≡ dumped.now.1)) }
 {
     if dumped.class().as_slice() == b"DRb::DRbArray".as_slice() {
         Some(dumped.bytes())
@@ -100,10 +105,13 @@ fn held_by(dumped: &Dumped) -> Option<&[u8]>
 
 /// The array that these bytes begin with a dump of.
 fn read_array(alloc: Global, bytes: &[u8]) -> Result<Value, ReadError>
-    ensures list { IfOk result (λ w. (items : List Tree) × (w ≡ list_tree items) × DumpsList bytes.now items) }
-    ensures every_list { (items : List Tree) → DumpsList bytes.now items → (result ≡ Ok (list_tree items)) ⊎ (result ≡ Err ReadError.Memory) }
-    ensures refusal { (f : Refusal) → result ≡ Err (ReadError.Refused f) → RefusesArray bytes.now f.why f.at }
-    ensures every_refusal { (why : Why) (at : ℕ) → RefusesArray bytes.now why at → (result ≡ Err (ReadError.Refused (record { why = why; at = at }))) ⊎ (result ≡ Err ReadError.Memory) }
+    ensures list { IfOk result (λ w. IsListIn bytes.now w) }
+    ensures every_list { (items : List Tree) → DumpsList bytes.now items
+        → IsOrLacksMemory (Ok (list_tree items)) result }
+    ensures refusal { (f : Refusal) → result ≡ Err (ReadError.Refused f)
+        → RefusesArray bytes.now f.why f.at }
+    ensures every_refusal { (why : Why) (at : ℕ) → RefusesArray bytes.now why at
+        → IsOrLacksMemory (refused_as why at) result }
 {
     match read_dump(alloc, bytes) {
         Ok((value, _)) => only_array(value, bytes),
@@ -113,7 +121,9 @@ fn read_array(alloc: Global, bytes: &[u8]) -> Result<Value, ReadError>
 
 /// The value where it is an array, and else its refusal, as the value that these bytes begin with a dump of.
 fn only_array(value: Value, bytes: &[u8]) -> Result<Value, ReadError>
-    ensures { MatchResult result (λ w. IsList value × (w ≡ value)) (λ e. (IsList value → ⊥) × (e ≡ ReadError.Refused (record { why = Why.BadType (slice_index bytes.now 2); at = 2 }))) }
+    ensures { MatchResult result (λ w. IsList value × (w ≡ value)) (λ e. (IsList value → ⊥)
+        × (e ≡ ReadError.Refused
+        (record { why = Why.BadType (slice_index bytes.now 2); at = 2 }))) }
 {
     if is_list(&value) {
         return Ok(value);

@@ -11,7 +11,7 @@ use std::alloc::{AllocError, Global};
 ///
 /// The class's name is ASCII, as the names of Ruby's own exceptions are.
 /// Errors: only want of memory.
-/// Source: Ruby's error.c, exc_exception, and marshal.c; docs/WIRE.md, References, uris and exceptions.
+/// Source: Ruby's error.c, exc_exception, and marshal.c; docs/WIRE.md, Exceptions.
 pub fn exception(alloc: Global, class: &[u8], message: &[u8]) -> Result<Value, AllocError>
     requires { IsTrue (all_ascii class.now) }
     ensures { IfOk result (λ value. value ≡ exception_tree class.now message.now) }

@@ -28,10 +28,11 @@ pub enum UriError {
 ///
 /// The host is a part of `text`; no memory is taken.
 /// Errors: exactly the first that holds of `Scheme`, `Host` and `Port`.
-/// Source: Ruby's drb.rb, DRbTCPSocket.parse_uri; docs/WIRE.md, References, uris and exceptions.
+/// Source: Ruby's drb.rb, DRbTCPSocket.parse_uri; docs/WIRE.md, References and uris.
 pub fn parse_uri(text: &[u8]) -> Result<Address<'_>, UriError>
     ensures address { IfOk result (λ a. IsUri text.now a.host.now a.port) }
-    ensures every_uri { (host : List ℕ) (port : ℕ) → IsUri text.now host port → MatchResult result (λ a. (a.host.now ≡ host) × (a.port ≡ port)) (λ _. ⊥) }
+    ensures every_uri { (host : List ℕ) (port : ℕ) → IsUri text.now host port
+        → MatchResult result (λ a. (a.host.now ≡ host) × (a.port ≡ port)) (λ _. ⊥) }
     ensures scheme { (result ≡ Err UriError.Scheme) ↔ LacksScheme text.now }
     ensures host { (result ≡ Err UriError.Host) ↔ LacksHost text.now }
     ensures port { (result ≡ Err UriError.Port) ↔ LacksPort text.now }
@@ -186,8 +187,10 @@ fn are_digits(digits: &[u8]) -> bool
 /// The number that these digits write, where there are some and it has 16 bits.
 fn value_of(digits: &[u8]) -> Option<u16>
     requires { AllDigits 10 digits.now }
-    ensures value { IfSome result (λ number. (0 < length digits.now) × (number ≡ digits_value 10 digits.now) × (number < 2 ^ 16)) }
-    ensures every { 0 < length digits.now → digits_value 10 digits.now < 2 ^ 16 → result ≡ Some (digits_value 10 digits.now) }
+    ensures value { IfSome result (λ number. (0 < length digits.now)
+        × (number ≡ digits_value 10 digits.now) × (number < 2 ^ 16)) }
+    ensures every { 0 < length digits.now → digits_value 10 digits.now < 2 ^ 16
+        → result ≡ Some (digits_value 10 digits.now) }
 {
     let Ok(text) = str::from_utf8(digits) else {
         return None;
