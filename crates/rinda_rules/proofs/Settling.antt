@@ -15,15 +15,18 @@ use Rattle.rinda_rules.specs.declared.plain.Request.{Request}
 use Rattle.rinda_rules.specs.declared.plain.Notifier.{Notifier}
 use Rattle.rinda_rules.specs.Rows.{changed}
 use Rattle.rinda_rules.specs.Space.{Plain, opening, tuple_at, request_at, is_parked, is_due_tuple, is_due_request, is_due_notifier}
-use Rattle.rinda_rules.specs.Phases.{aged, aged_tuple, aged_request, aged_notifier, expires, nothing_due, nobody_waits, in_state, held_by, served_as, served, served_rows, Serve}
+use Rattle.rinda_rules.specs.AtOnce.{aged_tuple, aged_request, aged_notifier, expires, aged_at_once}
+use Rattle.rinda_rules.specs.Phases.{aged, nothing_due, nobody_waits, in_state, held_by, served_as, served, served_rows, Serve}
 use Rattle.rinda_rules.specs.Cases.{outcome}
 use Rattle.rinda_rules.specs.Steps.{Case, Step, chooser, found_by}
-use Rattle.rinda_rules.specs.Settled.{Settled, Numbered}
+use Rattle.rinda_rules.specs.Settled.{Settled}
+use Rattle.rinda_rules.specs.Sound.{Sound}
 use Rattle.rinda_rules.specs.Fixed.{after}
 use Rattle.rinda_rules.specs.Legal.{LegalFrom, Legal, plain_from, plain}
 use Rattle.rinda_rules.proofs.Lists.{all_imp, all_map, all_filter, all_of_filter, all_true, all_changed}
-use Rattle.rinda_rules.proofs.Keeping.{step_kept}
-use Rattle.rinda_rules.proofs.Sounding.{Sound, sound_keeps, sound_opening}
+use Rattle.rinda_rules.proofs.Outcomes.{chosen_none, chosen_match}
+use Rattle.rinda_rules.proofs.AtOnce.{aging_at_once}
+use Rattle.rinda_rules.proofs.Sounding.{sound_opening, sound-outcome, sound-found_by, sound-Step}
 
 both : (a b : Bool) → a ≡ true → b ≡ true → (a && b) ≡ true
 both a b e f = grind arith
@@ -45,13 +48,16 @@ aged_request_not_due now r = grind (arith, nat_tests)
 aged_notifier_not_due : (s : Plain) (n : Notifier) → not (is_due_notifier s.clock (aged_notifier s n)) ≡ true
 aged_notifier_not_due s n = grind (arith, nat_tests)
 
-pub nothing_due-aged : (s : Plain) → nothing_due (aged s) ≡ true
-nothing_due-aged s =
+pub nothing_due-aged_at_once : (s : Plain) → nothing_due (aged_at_once s) ≡ true
+nothing_due-aged_at_once s =
     let ts : List Entry = filter (λ t. not (expires s.clock t)) s.tuples in
     both _ _ (all_map (λ t. not (is_due_tuple s.clock t)) (aged_tuple s.clock) ts
     ∙ all_imp (λ t. not (expires s.clock t)) (λ t. not (is_due_tuple s.clock (aged_tuple s.clock t))) (aged_tuple_not_due s.clock) ts (all_of_filter (λ t. not (expires s.clock t)) s.tuples))
     (both _ _ (all_map (λ r. not (is_due_request s.clock r)) (aged_request s.clock) s.requests ∙ all_true (λ r. not (is_due_request s.clock (aged_request s.clock r))) (aged_request_not_due s.clock) s.requests)
     (all_map (λ n. not (is_due_notifier s.clock n)) (aged_notifier s) s.notifiers ∙ all_true (λ n. not (is_due_notifier s.clock (aged_notifier s n))) (aged_notifier_not_due s) s.notifiers))
+
+pub nothing_due-aged : (s : Plain) → Sound s → nothing_due (aged s) ≡ true
+nothing_due-aged s sound = rw (aging_at_once s sound) (nothing_due-aged_at_once s)
 
 -- Serving.
 
@@ -93,29 +99,34 @@ served-Serve s [] s' h due = subst (λ (p : Plain). Served p) (sym h.1) (record 
 served-Serve s (pick ∷ picks) s' h due =
     served-Serve (served s pick) picks s' h.1 (of-not_due _ (not_due-rows s (request_at s pick.request) (tuple_at s pick.tuple) (not_due-of s due)))
 
-served-Case : (s : Plain) (caller : ℕ) (event : Event) (r : Option Request) (o : Out) (picks : List Pick) (s' : Plain) → Case s caller event r o picks s' → Served s'
-served-Case s caller event None o picks s' case = served-Serve _ picks s' case.1 (nothing_due-aged (outcome s caller event None).after)
-served-Case s caller event (Some r) o [] s' case = absurd case
-served-Case s caller event (Some r) o (pick ∷ picks) s' case = served-Serve _ picks s' case.2 (nothing_due-aged (outcome s caller event (tuple_at s pick.tuple)).after)
+served-Case : (s : Plain) (caller : ℕ) (event : Event) (r : Option Request) (o : Out) (picks : List Pick) (s' : Plain) → chooser s caller event ≡ r → Sound s → Case s caller event r o picks s' → Served s'
+served-Case s caller event None o picks s' chooses sound case = served-Serve _ picks s' case.1 (nothing_due-aged (outcome s caller event None).after (sound-outcome s caller event None (chosen_none s event) sound))
+served-Case s caller event (Some r) o [] s' chooses sound case = absurd case
+served-Case s caller event (Some r) o (pick ∷ picks) s' chooses sound case =
+    served-Serve _ picks s' case.2 (nothing_due-aged (outcome s caller event (tuple_at s pick.tuple)).after (sound-outcome s caller event (tuple_at s pick.tuple) (chosen_match s caller event r pick chooses case.0) sound))
 
 -- A step leads from a settled space to a settled one.
 
+-- sound and settled
 pub record Both (s : Plain) : Type 0 where
-  pub numbered : Numbered s
+  pub sound : Sound s
   pub settled : Settled s
 
-pub settled-Step : (s : Plain) (caller at : ℕ) (event : Event) (o : Out) (picks : List Pick) (s' : Plain) → Numbered s → Settled s → Step s caller at event o picks s' → Both s'
-settled-Step s caller at event o picks s' numbered settled step =
-    let sound : Sound s' = step_kept caller event Sound (sound_keeps caller event) s at o picks s' step (record { numbered = numbered; kept = settled.kept }) in
-    let served : Served s' = served-Case (found_by s at) caller event (chooser (found_by s at) caller event) o picks s' step in
-    record { numbered = sound.numbered; settled = record { nobody = served.nobody; not_due = served.not_due; kept = sound.kept } }
+pub settled-Step : (s : Plain) (caller at : ℕ) (event : Event) (o : Out) (picks : List Pick) (s' : Plain) → Sound s → Step s caller at event o picks s' → Both s'
+settled-Step s caller at event o picks s' before step =
+    let sound : Sound s' = sound-Step s caller at event o picks s' step before in
+    let served : Served s' = served-Case (found_by s at) caller event (chooser (found_by s at) caller event) o picks s' refl (sound-found_by s at before) step in
+    record { sound = sound; settled = record { nobody = served.nobody; not_due = served.not_due; kept = sound.held; closed = sound.closed } }
 
--- what a legal history leads to is settled and numbered
-pub reached : (s : Plain) (h : List Turn) → Numbered s → Settled s → LegalFrom s h → Both (plain_from s h)
-reached s [] numbered settled legal = record { numbered = numbered; settled = settled }
-reached s (t ∷ ts) numbered settled legal =
-    let next : Both (after s t) = settled-Step s t.caller t.at t.event t.out t.picks (after s t) numbered settled legal.0.step in
-    reached (after s t) ts next.numbered next.settled legal.1
+-- what a legal history leads to is sound and settled
+pub reached : (s : Plain) (h : List Turn) → Sound s → Settled s → LegalFrom s h → Both (plain_from s h)
+reached s [] sound settled legal = record { sound = sound; settled = settled }
+reached s (t ∷ ts) sound settled legal =
+    let next : Both (after s t) = settled-Step s t.caller t.at t.event t.out t.picks (after s t) sound legal.0.step in
+    reached (after s t) ts next.sound next.settled legal.1
+
+pub settled_opening : Settled opening
+settled_opening = record { nobody = refl; not_due = refl; kept = refl; closed = refl }
 
 pub reached_opening : (h : List Turn) → Legal h → Both (plain h)
-reached_opening h legal = reached opening h sound_opening.numbered (record { nobody = refl; not_due = refl; kept = refl }) legal
+reached_opening h legal = reached opening h sound_opening settled_opening legal

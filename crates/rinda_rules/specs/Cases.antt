@@ -17,7 +17,7 @@ use Rattle.rinda_rules.specs.declared.object.Doubt.TheVariants as doubt
 use Rattle.rinda_rules.specs.declared.event.Kind.{Kind}
 use Rattle.rinda_rules.specs.declared.event.Kind.TheVariants as kind
 use Rattle.rinda_rules.specs.declared.event.Event.{Event}
-use Rattle.rinda_rules.specs.declared.event.Event.TheVariants.{Write, Reserve, Submit, Collect, Settle, Withdraw, Cancel, Renew, Look, Value, ReadAll, Notify, Pop, NextAsk, Asked, Tick}
+use Rattle.rinda_rules.specs.declared.event.Event.TheVariants.{Write, Reserve, Submit, Collect, Settle, Withdraw, Cancel, Renew, Look, Value, ReadAll, Notify, Pop, NextAsk, Asked, Tick, Shut}
 use Rattle.rinda_rules.specs.declared.out.Flags.{Flags}
 use Rattle.rinda_rules.specs.declared.out.Out.{Out}
 use Rattle.rinda_rules.specs.declared.out.Out.TheVariants as out
@@ -30,10 +30,11 @@ use Rattle.rinda_rules.specs.declared.plain.Hearing.{Hearing}
 use Rattle.rinda_rules.specs.declared.plain.Hearing.TheVariants as hearing
 use Rattle.rinda_rules.specs.declared.plain.Happening.TheVariants as happening
 use Rattle.rinda_rules.specs.declared.plain.Raised.{Raised}
-use Rattle.rinda_rules.specs.Rows.{changed}
-use Rattle.rinda_rules.specs.Space.{Plain, Found, TheTuple, TheRequest, TheNotifier, HasEnded, IsRecycled, IsUnknown, found, fits, tuple_at, is_over, renewer_of, value_of, is_doubted, is_free, is_live, is_read, is_waiting, event_value}
+use Rattle.rinda_tuple.specs.Tuples.{value_of}
+use Rattle.rinda_tuple.specs.Matching.{matches}
+use Rattle.rinda_rules.specs.Space.{Plain, Found, TheTuple, TheRequest, TheNotifier, HasEnded, IsRecycled, IsUnknown, found, tuple_at, is_over, renewer_of, is_doubted, is_free, is_live, is_read, is_reserved, is_parked, is_running, is_waiting, event_value}
 use Rattle.rinda_rules.specs.Queue.{queue}
-use Rattle.rinda_rules.specs.Phases.{raised, ended, tuple_ended, request_ended, notifier_ended, in_state, request_in, served_with}
+use Rattle.rinda_rules.specs.Phases.{raised, ended, with_tuple, with_request, with_notifier, tuple_ended, request_ended, notifier_ended, in_state, request_in, served_with}
 
 -- An answer, and the space that it leaves.
 pub record Outcome : Type 0 where
@@ -46,16 +47,9 @@ answers s o = record { out = o; after = s }
 abbrev pub nil : Tree
 nil = roll-Tree Tree-F.Nil
 
--- one tuple, request or notifier changed, the rest of the space as it was
-
-abbrev pub with_tuple : ℕ → (Entry → Entry) → Plain → Plain
-with_tuple id change s = record s { tuples = changed (λ t. t.id) id change s.tuples }
-
-abbrev pub with_request : ℕ → (Request → Request) → Plain → Plain
-with_request id change s = record s { requests = changed (λ r. r.id) id change s.requests }
-
-abbrev pub with_notifier : ℕ → (Notifier → Notifier) → Plain → Plain
-with_notifier id change s = record s { notifiers = changed (λ n. n.id) id change s.notifiers }
+-- A space that is shut takes nothing new.
+abbrev pub unless_shut : Plain → Outcome → Outcome
+unless_shut s case = if s.shut then answers s out.Shut else case
 
 -- Write.
 
@@ -73,7 +67,7 @@ new_tuple s value lease = record {
 -- a waiting Read whose pattern matches the tuple is answered with it
 abbrev pub read_by : Tuple → Request → Request
 read_by value r =
-    if is_read r.kind && (is_waiting r && fits r.pattern value) then in_state (state.Answered (out.Answer (value_of value))) r
+    if is_read r.kind && (is_waiting r && matches r.pattern value) then in_state (state.Answered (out.Answer (value_of value))) r
     else r
 
 abbrev pub minted : Plain → Plain
@@ -92,7 +86,7 @@ abbrev pub write_tuple : Plain → Entry → Plain
 write_tuple s t = if is_over s.clock t.deadline then written_over t (minted s) else written t (minted s)
 
 abbrev pub write : Plain → Tuple → Lease → Outcome
-write s value lease = answers (write_tuple s (new_tuple s value lease)) (out.Entry s.next)
+write s value lease = unless_shut s (answers (write_tuple s (new_tuple s value lease)) (out.Entry s.next))
 
 -- Reserve.
 
@@ -111,7 +105,8 @@ new_request s caller kind pattern lease = record {
 
 abbrev pub reserve : Plain → ℕ → Kind → Template → Lease → Outcome
 reserve s caller kind pattern lease =
-    answers (record (minted s) { requests = s.requests ++ new_request s caller kind pattern lease ∷ [] }) (out.Reserved s.next)
+    unless_shut s
+    (answers (record (minted s) { requests = s.requests ++ new_request s caller kind pattern lease ∷ [] }) (out.Reserved s.next))
 
 -- An event that names an object: an id that was never minted is Unknown, and one that ended too long ago is Recycled.
 
@@ -365,7 +360,7 @@ value s IsUnknown = answers s out.Unknown
 -- ReadAll: the rows rise by id.
 
 abbrev pub all_of : Plain → Template → List Tree
-all_of s pattern = map (λ t. value_of t.value) (filter (λ t. fits pattern t.value && is_live s.clock t) s.tuples)
+all_of s pattern = map (λ t. value_of t.value) (filter (λ t. matches pattern t.value && is_live s.clock t) s.tuples)
 
 -- Notify: it hears the events from now on.
 
@@ -384,7 +379,8 @@ new_notifier s event pattern lease = record {
 
 abbrev pub notify : Plain → Tree → Template → Lease → Outcome
 notify s event pattern lease =
-    answers (record (minted s) { notifiers = s.notifiers ++ new_notifier s event pattern lease ∷ [] }) (out.Notifier s.next)
+    unless_shut s
+    (answers (record (minted s) { notifiers = s.notifiers ++ new_notifier s event pattern lease ∷ [] }) (out.Notifier s.next))
 
 -- NextAsk: of the rows that wait for their renewers, the one of least id.
 
@@ -455,6 +451,27 @@ told s deadline (HasEnded kind last) = answers s out.Plain
 told s deadline IsRecycled = answers s out.Recycled
 told s deadline IsUnknown = answers s out.Unknown
 
+-- Shut: each reserved request is marked, each parked one is answered Canceled, and each running notifier is closed.
+
+abbrev pub shut_request : Request → Request
+shut_request r =
+    if is_reserved r.state then record r { marked = true }
+    else (if is_parked r.state then in_state (state.Answered out.Canceled) r
+    else r)
+
+abbrev pub shut_notifier : ℕ → Notifier → Notifier
+shut_notifier until n = if is_running n.state then record n { state = hearing.Closed last.Canceled until } else n
+
+abbrev pub shut_down : Plain → Plain
+shut_down s = record s {
+  shut = true;
+  requests = map shut_request s.requests;
+  notifiers = map (shut_notifier (length s.events)) s.notifiers;
+}
+
+abbrev pub shut : Plain → Outcome
+shut s = if s.shut then answers s out.NotYet else answers (shut_down s) out.Plain
+
 -- The event's own case, in the space as aging left it. A Submit that has a match gets the choice.
 abbrev pub outcome : Plain → ℕ → Event → Option Entry → Outcome
 outcome s caller (Write value lease) choice = write s value lease
@@ -473,3 +490,4 @@ outcome s caller (Pop id) choice = pop s (found s id)
 outcome s caller NextAsk choice = ask s (least (askings s))
 outcome s caller (Asked id life) choice = told s (deadline life s.clock) (found s id)
 outcome s caller Tick choice = answers s out.Plain
+outcome s caller Shut choice = shut s

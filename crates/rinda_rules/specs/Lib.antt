@@ -7,7 +7,12 @@ pub mod Nothing
 pub mod Steps
 pub mod Fixed
 pub mod Settled
+pub mod Sound
+pub mod AtOnce
+pub mod Reopened
+pub mod Starts
 pub mod Legal
 pub mod Full
+pub mod Journals
 pub mod Laws
 pub mod Own

@@ -1,7 +1,7 @@
 -- What counts as nothing, and makes no turn. docs/SPACE.md, Nothing.
 use Rattle.std.specs.Prelude.{ℕ, Bool, true, false, ◌&&◌, ◌==◌, List, [], ◌∷◌, is_none}
 use Rattle.rinda_rules.specs.declared.event.Event.{Event}
-use Rattle.rinda_rules.specs.declared.event.Event.TheVariants.{Write, Reserve, Submit, Collect, Settle, Withdraw, Cancel, Renew, Look, Value, ReadAll, Notify, Pop, NextAsk, Asked, Tick}
+use Rattle.rinda_rules.specs.declared.event.Event.TheVariants.{Write, Reserve, Submit, Collect, Settle, Withdraw, Cancel, Renew, Look, Value, ReadAll, Notify, Pop, NextAsk, Asked, Tick, Shut}
 use Rattle.rinda_rules.specs.declared.plain.Raised.{Raised}
 use Rattle.rinda_rules.specs.Space.{Plain, Found, TheTuple, TheRequest, TheNotifier, HasEnded, IsRecycled, IsUnknown, found, is_parked, is_running}
 use Rattle.rinda_rules.specs.Queue.{queue}
@@ -48,6 +48,7 @@ finds_nothing s caller (Pop id) = hears_nothing s (found s id)
 finds_nothing s caller NextAsk = is_none (least (askings s))
 finds_nothing s caller (Asked id life) = false
 finds_nothing s caller Tick = true
+finds_nothing s caller Shut = s.shut
 
 -- no row is due at the larger of now and the reading, and the event finds nothing to do
 abbrev pub is_nothing : Plain → ℕ → ℕ → Event → Bool

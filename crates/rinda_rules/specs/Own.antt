@@ -1,7 +1,7 @@
 -- The events that only a request's own caller makes of it. docs/SPACE.md, Cases.
 use Rattle.std.specs.Prelude.{ℕ, Bool, false, ◌==◌}
 use Rattle.rinda_rules.specs.declared.event.Event.{Event}
-use Rattle.rinda_rules.specs.declared.event.Event.TheVariants.{Write, Reserve, Submit, Collect, Settle, Withdraw, Cancel, Renew, Look, Value, ReadAll, Notify, Pop, NextAsk, Asked, Tick}
+use Rattle.rinda_rules.specs.declared.event.Event.TheVariants.{Write, Reserve, Submit, Collect, Settle, Withdraw, Cancel, Renew, Look, Value, ReadAll, Notify, Pop, NextAsk, Asked, Tick, Shut}
 
 -- the event is one of those that only a request's own caller makes of it
 abbrev pub is_of : ℕ → Event → Bool
@@ -21,3 +21,4 @@ is_of id (Pop i) = false
 is_of id NextAsk = false
 is_of id (Asked i life) = false
 is_of id Tick = false
+is_of id Shut = false

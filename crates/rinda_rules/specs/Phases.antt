@@ -1,5 +1,5 @@
 -- The phases of a turn around the event's own case: advance, age and serve; and raising. docs/SPACE.md, Phases.
-use Rattle.std.specs.Prelude.{◌≡◌, ℕ, ◌+◌, Bool, false, not, ◌&&◌, ◌||◌, ◌==◌, nat_lt, max, List, [], ◌∷◌, ◌++◌, map, filter, length, Option, Some, None, is_none, if◌then◌else◌, IsTrue}
+use Rattle.std.specs.Prelude.{◌≡◌, ℕ, zero, suc, Bool, false, not, ◌&&◌, ◌||◌, ◌==◌, max, List, [], ◌∷◌, ◌++◌, length, Option, Some, None, is_none, if◌then◌else◌, IsTrue}
 use Rattle.std.specs.List.{list_any, list_all}
 use Rattle.rinda_rules.specs.declared.object.ObjectKind.{ObjectKind}
 use Rattle.rinda_rules.specs.declared.object.ObjectKind.TheVariants as object
@@ -18,10 +18,9 @@ use Rattle.rinda_rules.specs.declared.plain.Notifier.{Notifier}
 use Rattle.rinda_rules.specs.declared.plain.Hearing.TheVariants as hearing
 use Rattle.rinda_rules.specs.declared.plain.Happening.{Happening}
 use Rattle.rinda_rules.specs.declared.plain.Happening.TheVariants as happening
-use Rattle.rinda_rules.specs.declared.plain.Raised.{Raised}
-use Rattle.rinda_rules.specs.declared.plain.Ended.{Ended}
 use Rattle.rinda_rules.specs.Rows.{changed, without}
-use Rattle.rinda_rules.specs.Space.{Plain, tuple_at, request_at, retained, value_of, is_due_tuple, is_due_request, is_due_notifier, is_read, is_waiting, may_have, can_be_served}
+use Rattle.rinda_tuple.specs.Tuples.{value_of}
+use Rattle.rinda_rules.specs.Space.{Plain, Found, TheTuple, TheRequest, TheNotifier, HasEnded, IsRecycled, IsUnknown, found, tuple_at, request_at, retained, is_due_tuple, is_due_request, is_due_notifier, is_read, is_waiting, may_have, can_be_served}
 
 -- Advance: now becomes the larger of now and the reading.
 
@@ -32,6 +31,23 @@ advanced s at = record s { clock = max s.clock at }
 
 abbrev pub raised : Happening → Entry → Plain → Plain
 raised what t s = record s { events = s.events ++ record { what = what; id = t.id; tuple = t.value } ∷ [] }
+
+-- One tuple, request or notifier is changed, and the rest of the space stays as it was.
+
+abbrev pub with_tuple : ℕ → (Entry → Entry) → Plain → Plain
+with_tuple id change s = record s { tuples = changed (λ t. t.id) id change s.tuples }
+
+abbrev pub with_request : ℕ → (Request → Request) → Plain → Plain
+with_request id change s = record s { requests = changed (λ r. r.id) id change s.requests }
+
+abbrev pub with_notifier : ℕ → (Notifier → Notifier) → Plain → Plain
+with_notifier id change s = record s { notifiers = changed (λ n. n.id) id change s.notifiers }
+
+abbrev pub in_state : RequestState → Request → Request
+in_state state r = record r { state = state }
+
+abbrev pub request_in : ℕ → RequestState → Plain → Plain
+request_in id state s = record s { requests = changed (λ r. r.id) id (in_state state) s.requests }
 
 -- An object ends: its id is kept among the last that ended.
 
@@ -56,49 +72,52 @@ abbrev pub notifier_ended : Last → ℕ → Plain → Plain
 notifier_ended last id s = ended object.Notifier id last (record s { notifiers = without (λ n. n.id) id s.notifiers })
 
 -- Age: each due row, in rising id. With a renewer it is doubted. Without, a tuple ends and is raised as deleted, a
--- request is answered Expired, and a notifier is closed, so that of the tuples that end now it hears those of lower id.
+-- request is answered Expired, and a notifier is closed, after the events that were raised by then.
 
--- a due tuple without a renewer
-abbrev pub expires : ℕ → Entry → Bool
-expires now t = is_due_tuple now t && is_none t.renewer
+abbrev pub doubt_tuple : Entry → Entry
+doubt_tuple t = record t { doubt = doubt.Waiting }
 
-abbrev pub aged_tuple : ℕ → Entry → Entry
-aged_tuple now t = if is_due_tuple now t then record t { doubt = doubt.Waiting } else t
+abbrev pub doubt_request : Request → Request
+doubt_request r = record r { doubt = doubt.Waiting }
 
-abbrev pub aged_request : ℕ → Request → Request
-aged_request now r =
-    if is_due_request now r
-    then (if is_none r.renewer then record r { state = state.Answered out.Expired } else record r { doubt = doubt.Waiting })
-    else r
+abbrev pub doubt_notifier : Notifier → Notifier
+doubt_notifier n = record n { doubt = doubt.Waiting }
 
--- how many tuples of lower id expire
-abbrev pub expire_before : ℕ → ℕ → List Entry → ℕ
-expire_before now id tuples = length (filter (λ t. expires now t && nat_lt t.id id) tuples)
+abbrev pub close_after : Last → ℕ → Notifier → Notifier
+close_after last until n = record n { state = hearing.Closed last until }
 
-abbrev pub aged_notifier : Plain → Notifier → Notifier
-aged_notifier s n =
-    if is_due_notifier s.clock n
-    then (if is_none n.renewer
-    then record n { state = hearing.Closed last.Expired (length s.events + expire_before s.clock n.id s.tuples) }
-    else record n { doubt = doubt.Waiting })
-    else n
+-- a tuple that is due
+abbrev pub age_tuple : Plain → Entry → Plain
+age_tuple s t = if is_none t.renewer then tuple_ended last.Expired t s else with_tuple t.id doubt_tuple s
 
-abbrev pub deleted : Entry → Raised
-deleted t = record { what = happening.Delete; id = t.id; tuple = t.value }
+-- a request that is due
+abbrev pub age_request : Plain → Request → Plain
+age_request s r =
+    if is_none r.renewer then request_in r.id (state.Answered out.Expired) s else with_request r.id doubt_request s
 
-abbrev pub expired : Entry → Ended
-expired t = record { id = t.id; kind = object.Entry; last = last.Expired }
+-- a notifier that is due
+abbrev pub age_notifier : Plain → Notifier → Plain
+age_notifier s n =
+    if is_none n.renewer then with_notifier n.id (close_after last.Expired (length s.events)) s
+    else with_notifier n.id doubt_notifier s
 
-abbrev pub aged : Plain → Plain
-aged s = record {
-  clock = s.clock;
-  next = s.next;
-  tuples = map (aged_tuple s.clock) (filter (λ t. not (expires s.clock t)) s.tuples);
-  requests = map (aged_request s.clock) s.requests;
-  notifiers = map (aged_notifier s) s.notifiers;
-  events = s.events ++ map deleted (filter (expires s.clock) s.tuples);
-  ended = retained (s.ended ++ map expired (filter (expires s.clock) s.tuples));
-}
+-- what the id names ages, where it is due
+abbrev pub age_found : Plain → Found → Plain
+age_found s (TheTuple t) = if is_due_tuple s.clock t then age_tuple s t else s
+age_found s (TheRequest r) = if is_due_request s.clock r then age_request s r else s
+age_found s (TheNotifier n) = if is_due_notifier s.clock n then age_notifier s n else s
+age_found s (HasEnded kind last) = s
+age_found s IsRecycled = s
+age_found s IsUnknown = s
+
+-- each row of an id below that number, in rising id
+abbrev pub aged_below : ℕ → Plain → Plain
+aged_below zero s = s
+aged_below (suc id) s = let before = aged_below id s in age_found before (found before id)
+
+-- each row that is due
+unfoldable pub aged : Plain → Plain
+aged s = aged_below s.next s
 
 -- no row is due
 abbrev pub nothing_due : Plain → Bool
@@ -107,12 +126,6 @@ nothing_due s =
     && (list_all (λ r. not (is_due_request s.clock r)) s.requests && list_all (λ n. not (is_due_notifier s.clock n)) s.notifiers)
 
 -- Serve: first each waiting Read that has a match, then Takes and Moves, until nobody waits beside a match.
-
-abbrev pub in_state : RequestState → Request → Request
-in_state state r = record r { state = state }
-
-abbrev pub request_in : ℕ → RequestState → Plain → Plain
-request_in id state s = record s { requests = changed (λ r. r.id) id (in_state state) s.requests }
 
 abbrev pub held_by : ℕ → Entry → Entry
 held_by request t = record t { holder = Some request }

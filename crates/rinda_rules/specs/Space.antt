@@ -6,8 +6,7 @@ use Rattle.drb_tree.specs.declared.Tree.TheViews.{roll-Tree}
 use Rattle.drb_tree.specs.declared.Tree.TheOpen.{Tree-F}
 use Rattle.drb_tree.specs.declared.Remote.{Remote}
 use Rattle.drb_tree.specs.declared.Code.TheVariants.{Utf8}
-use Rattle.rinda_tuple.specs.declared.tuple.Tuple.{Tuple}
-use Rattle.rinda_tuple.specs.declared.tuple.Template.{Template}
+use Rattle.rinda_tuple.specs.Tuples.{value_of}
 use Rattle.rinda_tuple.specs.Matching.{matches, suits}
 use Rattle.rinda_rules.specs.declared.object.ObjectKind.{ObjectKind}
 use Rattle.rinda_rules.specs.declared.object.Last.{Last}
@@ -29,10 +28,12 @@ use Rattle.rinda_rules.specs.declared.plain.Ended.{Ended}
 use Rattle.rinda_rules.specs.Rows.{row_of}
 
 -- The clock is the latest time that the space has seen. Events are all that were ever raised, the first one first.
--- Ended are the last 4,096 objects that ended, in the order in which they ended.
+-- Ended are the last 4,096 objects that ended, in the order in which they ended. A space that is shut takes no new
+-- tuples, requests and notifiers.
 pub record Plain : Type 0 where
   pub clock : ℕ
   pub next : ℕ
+  pub shut : Bool
   pub tuples : List Entry
   pub requests : List Request
   pub notifiers : List Notifier
@@ -41,7 +42,16 @@ pub record Plain : Type 0 where
 
 -- the space before the first turn
 abbrev pub opening : Plain
-opening = record { clock = 0; next = 1; tuples = []; requests = []; notifiers = []; events = []; ended = [] }
+opening = record {
+  clock = 0;
+  next = 1;
+  shut = false;
+  tuples = [];
+  requests = [];
+  notifiers = [];
+  events = [];
+  ended = [];
+}
 
 abbrev pub tuple_at : Plain → ℕ → Option Entry
 tuple_at s id = row_of (λ t. t.id) id s.tuples
@@ -91,14 +101,6 @@ renewer_of deadline renewer now = if is_over now deadline then None else renewer
 
 -- Tuples.
 
--- a tuple as the value that a caller sees
-abbrev pub value_of : Tuple → Tree
-value_of tuple = roll-Tree (Tree-F.List tuple.items)
-
--- the template matches the tuple
-unfoldable pub fits : Template → Tuple → Bool
-fits pattern tuple = matches pattern.items tuple.items
-
 abbrev pub is_doubted : Doubt → Bool
 is_doubted No = false
 is_doubted Waiting = true
@@ -143,7 +145,7 @@ is_due_request now r = is_waiting r && is_over now r.deadline
 
 -- a live match, which is free unless the request only reads it
 abbrev pub may_have : ℕ → Request → Entry → Bool
-may_have now r t = fits r.pattern t.value && (is_live now t && (is_read r.kind || is_free t))
+may_have now r t = matches r.pattern t.value && (is_live now t && (is_read r.kind || is_free t))
 
 abbrev pub has_match : Plain → Request → Bool
 has_match s r = list_any (may_have s.clock r) s.tuples
@@ -179,4 +181,4 @@ event_value e = roll-Tree (Tree-F.List (text_of e.what ∷ value_of e.tuple ∷ 
 
 -- the notifier's event pattern suits the event's name, and its pattern matches the tuple
 unfoldable pub hears : Notifier → Raised → Bool
-hears n e = suits n.event (text_of e.what) && fits n.pattern e.tuple
+hears n e = suits n.event (text_of e.what) && matches n.pattern e.tuple

@@ -1,7 +1,7 @@
 -- A turn: advance, age, the event's own case, age, serve. docs/SPACE.md, Phases.
 use Rattle.std.specs.Prelude.{◌≡◌, ℕ, ◌&&◌, ◌==◌, List, [], ◌∷◌, Option, Some, None, if◌then◌else◌, IsTrue}
 use Rattle.rinda_rules.specs.declared.event.Event.{Event}
-use Rattle.rinda_rules.specs.declared.event.Event.TheVariants.{Write, Reserve, Submit, Collect, Settle, Withdraw, Cancel, Renew, Look, Value, ReadAll, Notify, Pop, NextAsk, Asked, Tick}
+use Rattle.rinda_rules.specs.declared.event.Event.TheVariants.{Write, Reserve, Submit, Collect, Settle, Withdraw, Cancel, Renew, Look, Value, ReadAll, Notify, Pop, NextAsk, Asked, Tick, Shut}
 use Rattle.rinda_rules.specs.declared.out.Out.{Out}
 use Rattle.rinda_rules.specs.declared.turn.Pick.{Pick}
 use Rattle.rinda_rules.specs.declared.plain.Request.{Request}
@@ -36,6 +36,7 @@ chooser s caller (Pop id) = None
 chooser s caller NextAsk = None
 chooser s caller (Asked id life) = None
 chooser s caller Tick = None
+chooser s caller Shut = None
 
 -- The event's own case and all that follows it. Where there is a chooser the first pick is a match of it.
 abbrev pub Case : Plain → ℕ → Event → Option Request → Out → List Pick → Plain → Type 0

@@ -88,6 +88,8 @@ pub enum Event {
     },
     /// Lets the space age.
     Tick,
+    /// Takes in nothing new from now on, and ends all waiting.
+    Shut,
 }
 
 impl Event {
@@ -125,6 +127,7 @@ impl Event {
                 life: *life,
             }),
             Event::Tick => Ok(Event::Tick),
+            Event::Shut => Ok(Event::Shut),
         }
     }
 }

@@ -14,11 +14,14 @@ pub mod object;
 pub mod out;
 pub mod plain;
 pub mod row;
+pub mod start;
 pub mod turn;
 
 pub use event::{Event, Kind};
 pub use journal::{Journal, JournalError, VecJournal};
 pub use object::{Doubt, Last, ObjectKind};
 pub use out::{Flags, Out};
+pub use plain::Ended;
 pub use row::{NoteRow, NoteState, RequestRow, RequestState, TupleRow};
+pub use start::{Start, StartLease, StartNote};
 pub use turn::{Pick, Picks, Turn};

@@ -58,6 +58,8 @@ pub enum Out {
     Unknown,
     /// The object is of another kind or state, or another caller's.
     WrongKind,
+    /// The space is shut, and takes in nothing new.
+    Shut,
 }
 
 impl Out {
@@ -87,6 +89,7 @@ impl Out {
             Out::Recycled => Out::Recycled,
             Out::Unknown => Out::Unknown,
             Out::WrongKind => Out::WrongKind,
+            Out::Shut => Out::Shut,
         })
     }
 }

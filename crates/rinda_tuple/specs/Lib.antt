@@ -1,5 +1,6 @@
 pub mod Lives
-pub mod Lists
 pub mod Classes
+pub mod Keys
+pub mod Tuples
 pub mod Ranges
 pub mod Matching

@@ -116,7 +116,7 @@ fn is_sym(x: &Node) -> bool
     matches!(x, Node::Sym(_))
 }
 
-fn is_text(x: &Node) -> bool
+pub fn is_text(x: &Node) -> bool
     ensures { result ≡ is_text_spec (layer x.now) }
 {
     matches!(x, Node::Text(_))

@@ -1,10 +1,10 @@
 use Rattle.std.proofs.Common.{◌≡◌, ◌≢◌, false, ◌&&◌, List, [], ◌∷◌, length, refl, arith, true}
 use Rattle.drb_tree.specs.declared.Tree.{Tree}
-use Rattle.rinda_tuple.specs.Matching.{suits, matches as matches_spec}
+use Rattle.rinda_tuple.specs.Matching.{suits, each_suits as each_suits_spec}
 use Rattle.rinda_tuple.proofs.matching.each_suits.Goals as goal
 
 -- lists of different lengths do not match
-matches-uneven : (es xs : List Tree) → length es ≢ length xs → false ≡ matches_spec es xs
+matches-uneven : (es xs : List Tree) → length es ≢ length xs → false ≡ each_suits_spec es xs
 matches-uneven [] [] h = absurd (h refl)
 matches-uneven [] (x ∷ xs) h = refl
 matches-uneven (e ∷ es) [] h = refl
