@@ -1,5 +1,6 @@
 -- Each way of changing the space keeps the balance.
-use Rattle.std.proofs.Common.{◌≡◌, ◌≢◌, ℕ, ◌+◌, ◌<◌, ◌≤◌, Bool, true, false, cond, not, ◌&&◌, eqb, ltb, List, [], ◌∷◌, ◌++◌, map, Option, Some, None, refl, sym, ◌∙◌, ap, subst, arith}
+use Rattle.std.proofs.Common.{◌≡◌, ◌≢◌, ℕ, ◌+◌, ◌<◌, ◌≤◌, Bool, true, false, cond, not, ◌&&◌, eqb, ltb, List, [], ◌∷◌, ◌++◌, map, length, drop, Option, Some, None, refl, sym, ◌∙◌, ap, subst, arith}
+use Rattle.std.proofs.lemmas.List.{append_assoc}
 use Rattle.std.specs.Prelude.{◌==◌, filter, if◌then◌else◌}
 use Rattle.std.specs.List.{list_all}
 use Rattle.std.proofs.lemmas.Bool.Decides.{nat_tests}
@@ -9,17 +10,20 @@ use Rattle.rinda_rules.specs.declared.event.Event.{Event}
 use Rattle.rinda_rules.specs.declared.plain.Happening.TheVariants as happening
 use Rattle.rinda_rules.specs.declared.plain.Entry.{Entry}
 use Rattle.rinda_rules.specs.declared.plain.Raised.{Raised}
-use Rattle.rinda_rules.specs.declared.turn.Turn.{Turn}
 use Rattle.rinda_rules.specs.Rows.{row_of, changed, without, rising, numbered}
-use Rattle.rinda_rules.specs.Space.{Plain, opening, tuple_at}
-use Rattle.rinda_rules.specs.Phases.{aged_tuple, expires, deleted, happening_of, tuple_ended, held_by}
-use Rattle.rinda_rules.specs.Cases.{new_tuple, with_tuple, settle_tuple}
-use Rattle.rinda_rules.specs.Fixed.{after}
-use Rattle.rinda_rules.specs.Legal.{plain_from, plain, LegalFrom, Legal}
+use Rattle.rinda_rules.specs.Space.{Plain, tuple_at}
+use Rattle.rinda_rules.specs.Phases.{happening_of, tuple_ended, held_by, with_tuple}
+use Rattle.rinda_rules.specs.AtOnce.{aged_tuple, expires, deleted}
+use Rattle.rinda_rules.specs.Cases.{new_tuple, settle_tuple}
 use Rattle.rinda_rules.proofs.Lists.{numbered-map, numbered-filter, numbered-changed, numbered-more, numbered-push}
 use Rattle.rinda_rules.proofs.Finding.{itself-tuple}
-use Rattle.rinda_rules.proofs.Keeping.{Keeps, step_kept}
-use Rattle.rinda_laws.specs.Balance.{how_many, writes, takes, deletes, there, is_write, is_take, is_delete}
+use Rattle.rinda_rules.proofs.Keeping.{Keeps}
+use Rattle.rinda_rules.specs.Sound.{Sound}
+use Rattle.rinda_rules.specs.declared.turn.Turn.{Turn}
+use Rattle.rinda_rules.specs.Legal.{plain_from, LegalFrom}
+use Rattle.rinda_laws.specs.Starting.{IsStart, raised_since}
+use Rattle.rinda_laws.specs.Balance.{Balanced, how_many, writes, takes, deletes, there, is_write, is_take, is_delete}
+use Rattle.rinda_laws.proofs.Turning.{kept_from, sound_before, plain_from-append, LegalFrom-back}
 
 count_append : {X : Type 0} (p : X → Bool) (xs ys : List X) → how_many p (xs ++ ys) ≡ how_many p xs + how_many p ys
 count_append p [] ys = grind arith
@@ -81,24 +85,27 @@ writes-push id es e = grind (arith, count_append (λ (e : Raised). is_write e.wh
 pub takes-push : (id : ℕ) (es : List Raised) (e : Raised) → takes id (es ++ e ∷ []) ≡ takes id es + cond (is_take e.what && e.id == id) 1 0
 takes-push id es e = grind (arith, count_append (λ (e : Raised). is_take e.what && e.id == id) es (e ∷ []))
 
+pub takes-append : (id : ℕ) (es more : List Raised) → takes id (es ++ more) ≡ takes id es + takes id more
+takes-append id es more = count_append (λ (e : Raised). is_take e.what && e.id == id) es more
+
 deletes-push : (id : ℕ) (es : List Raised) (e : Raised) → deletes id (es ++ e ∷ []) ≡ deletes id es + cond (is_delete e.what && e.id == id) 1 0
 deletes-push id es e = grind (arith, count_append (λ (e : Raised). is_delete e.what && e.id == id) es (e ∷ []))
 
--- the tuples and events of a space, apart
-pub record Books (next : ℕ) (ts : List Entry) (es : List Raised) : Type 0 where
+-- the tuples of the start, and the tuples and the events since then of a space, apart
+pub record Books (old : List Entry) (next : ℕ) (ts : List Entry) (es : List Raised) : Type 0 where
   pub ids : numbered (λ t. t.id) next ts ≡ true
-  pub balanced : (id : ℕ) → writes id es ≡ there id ts + (takes id es + deletes id es)
-  pub once : (id : ℕ) → writes id es ≤ 1
-  pub unwritten : (id : ℕ) → next ≤ id → writes id es ≡ 0
+  pub balanced : (id : ℕ) → there id old + writes id es ≡ there id ts + (takes id es + deletes id es)
+  pub once : (id : ℕ) → there id old + writes id es ≤ 1
+  pub unwritten : (id : ℕ) → next ≤ id → there id old + writes id es ≡ 0
 
-abbrev pub BooksOf : Plain → Type 0
-BooksOf s = Books s.next s.tuples s.events
+-- the books of a space, since the start
+pub record BooksOf (start s : Plain) : Type 0 where
+  pub new : List Raised
+  pub is : s.events ≡ start.events ++ new
+  pub books : Books start.tuples s.next s.tuples new
 
-pub books_opening : BooksOf opening
-books_opening = record { ids = refl; balanced = λ id. refl; once = λ id. omega arith; unwritten = λ id h. refl }
-
-books_aged : (next now : ℕ) (ts : List Entry) (es : List Raised) → Books next ts es → Books next (map (aged_tuple now) (filter (λ t. not (expires now t)) ts)) (es ++ map deleted (filter (expires now) ts))
-books_aged next now ts es h = record {
+books_aged : (old : List Entry) (next now : ℕ) (ts : List Entry) (es : List Raised) → Books old next ts es → Books old next (map (aged_tuple now) (filter (λ t. not (expires now t)) ts)) (es ++ map deleted (filter (expires now) ts))
+books_aged old next now ts es h = record {
   ids = numbered-map (λ t. t.id) next (aged_tuple now) (filter (λ t. not (expires now t)) ts) (aged_id now) (numbered-filter (λ t. t.id) next (λ t. not (expires now t)) ts h.ids);
   balanced = λ id.
       let a : writes id (es ++ ds) ≡ writes id es + writes id ds = count_append (λ (e : Raised). is_write e.what && e.id == id) es ds in
@@ -117,13 +124,13 @@ books_aged next now ts es h = record {
     ds = map deleted (filter (expires now) ts)
 
 -- a tuple that is there leaves with one event
-books_left : (next : ℕ) (l : Last) (t : Entry) (ts : List Entry) (es : List Raised) → row_of (λ t. t.id) t.id ts ≡ Some t → Books next ts es → Books next (without (λ t. t.id) t.id ts) (es ++ record { what = happening_of l; id = t.id; tuple = t.value } ∷ [])
-books_left next l t ts es here h = by_last l
+books_left : (old : List Entry) (next : ℕ) (l : Last) (t : Entry) (ts : List Entry) (es : List Raised) → row_of (λ t. t.id) t.id ts ≡ Some t → Books old next ts es → Books old next (without (λ t. t.id) t.id ts) (es ++ record { what = happening_of l; id = t.id; tuple = t.value } ∷ [])
+books_left old next l t ts es here h = by_last l
   where
     ids : numbered (λ t. t.id) next (without (λ t. t.id) t.id ts) ≡ true
     ids = numbered-filter (λ t. t.id) next (λ x. not (x.id == t.id)) ts h.ids
 
-    took : Books next (without (λ t. t.id) t.id ts) (es ++ record { what = happening.Take; id = t.id; tuple = t.value } ∷ [])
+    took : Books old next (without (λ t. t.id) t.id ts) (es ++ record { what = happening.Take; id = t.id; tuple = t.value } ∷ [])
     took = record {
       ids = ids;
       balanced = λ id. let e : Raised = record { what = happening.Take; id = t.id; tuple = t.value } in
@@ -132,7 +139,7 @@ books_left next l t ts es here h = by_last l
       unwritten = λ id above. omega (arith, writes-push id es (record { what = happening.Take; id = t.id; tuple = t.value }), h.unwritten id above);
     }
 
-    gone : Books next (without (λ t. t.id) t.id ts) (es ++ record { what = happening.Delete; id = t.id; tuple = t.value } ∷ [])
+    gone : Books old next (without (λ t. t.id) t.id ts) (es ++ record { what = happening.Delete; id = t.id; tuple = t.value } ∷ [])
     gone = record {
       ids = ids;
       balanced = λ id. let e : Raised = record { what = happening.Delete; id = t.id; tuple = t.value } in
@@ -141,22 +148,22 @@ books_left next l t ts es here h = by_last l
       unwritten = λ id above. omega (arith, writes-push id es (record { what = happening.Delete; id = t.id; tuple = t.value }), h.unwritten id above);
     }
 
-    by_last : (l : Last) → Books next (without (λ t. t.id) t.id ts) (es ++ record { what = happening_of l; id = t.id; tuple = t.value } ∷ [])
+    by_last : (l : Last) → Books old next (without (λ t. t.id) t.id ts) (es ++ record { what = happening_of l; id = t.id; tuple = t.value } ∷ [])
     by_last last.Taken = took
     by_last last.Expired = gone
     by_last last.Canceled = gone
     by_last last.Done = gone
 
-books_changed : (next of : ℕ) (f : Entry → Entry) (ts : List Entry) (es : List Raised) → ((t : Entry) → (f t).id ≡ t.id) → Books next ts es → Books next (changed (λ t. t.id) of f ts) es
-books_changed next of f ts es keeps h = record {
+books_changed : (old : List Entry) (next of : ℕ) (f : Entry → Entry) (ts : List Entry) (es : List Raised) → ((t : Entry) → (f t).id ≡ t.id) → Books old next ts es → Books old next (changed (λ t. t.id) of f ts) es
+books_changed old next of f ts es keeps h = record {
   ids = numbered-changed (λ t. t.id) next of f ts keeps h.ids;
-  balanced = λ id. rw (there-changed id of f ts keeps) (h.balanced id);
+  balanced = λ id. omega (arith, there-changed id of f ts keeps, h.balanced id);
   once = h.once;
   unwritten = h.unwritten;
 }
 
-books_more : (next : ℕ) (ts : List Entry) (es : List Raised) → Books next ts es → Books (next + 1) ts es
-books_more next ts es h = record { ids = numbered-more (λ t. t.id) next ts h.ids; balanced = h.balanced; once = h.once; unwritten = λ id above. h.unwritten id (omega (arith, above)) }
+books_more : (old : List Entry) (next : ℕ) (ts : List Entry) (es : List Raised) → Books old next ts es → Books old (next + 1) ts es
+books_more old next ts es h = record { ids = numbered-more (λ t. t.id) next ts h.ids; balanced = h.balanced; once = h.once; unwritten = λ id above. h.unwritten id (omega (arith, above)) }
 
 -- what is counted of one that has that id or not
 counted : (n id : ℕ) → cond (n == id) 1 0 ≤ 1
@@ -176,25 +183,27 @@ once_more n id w few none = by_test (n == id) refl
     by_test true e = let zero : w ≡ 0 = none (grind (arith, nat_tests)) in omega (arith, zero)
     by_test false e = omega (arith, few)
 
-books_written : (next : ℕ) (t : Entry) (ts : List Entry) (es : List Raised) → t.id ≡ next → Books next ts es → Books (next + 1) (ts ++ t ∷ []) (es ++ record { what = happening.Write; id = t.id; tuple = t.value } ∷ [])
-books_written next t ts es same h = record {
+books_written : (old : List Entry) (next : ℕ) (t : Entry) (ts : List Entry) (es : List Raised) → t.id ≡ next → Books old next ts es → Books old (next + 1) (ts ++ t ∷ []) (es ++ record { what = happening.Write; id = t.id; tuple = t.value } ∷ [])
+books_written old next t ts es same h = record {
   ids = numbered-push (λ t. t.id) next t ts same h.ids;
   balanced = λ id.
       let pushed : there id (ts ++ t ∷ []) ≡ there id ts + there id (t ∷ []) = count_append (λ (t : Entry). t.id == id) ts (t ∷ []) in
       omega (arith, writes-push id es e, takes-push id es e, deletes-push id es e, pushed, h.balanced id);
-  once = λ id. subst (λ (n : ℕ). n ≤ 1) (sym (writes-push id es e)) (once_more t.id id (writes id es) (h.once id) (λ above. h.unwritten id (subst (λ (n : ℕ). n ≤ id) same above)));
+  once = λ id.
+      let more : (there id old + writes id es) + cond (t.id == id) 1 0 ≤ 1 = once_more t.id id (there id old + writes id es) (h.once id) (λ above. h.unwritten id (subst (λ (n : ℕ). n ≤ id) same above)) in
+      omega (arith, writes-push id es e, more);
   unwritten = λ id above. omega (arith, writes-push id es e, not_above t.id id (subst (λ (n : ℕ). n + 1 ≤ id) (sym same) above), h.unwritten id (omega (arith, above)));
 }
   where
     e : Raised
     e = record { what = happening.Write; id = t.id; tuple = t.value }
 
-books_over : (next : ℕ) (t : Entry) (ts : List Entry) (es : List Raised) → t.id ≡ next → Books next ts es → Books (next + 1) ts ((es ++ record { what = happening.Write; id = t.id; tuple = t.value } ∷ []) ++ record { what = happening.Delete; id = t.id; tuple = t.value } ∷ [])
-books_over next t ts es same h = record {
+books_over : (old : List Entry) (next : ℕ) (t : Entry) (ts : List Entry) (es : List Raised) → t.id ≡ next → Books old next ts es → Books old (next + 1) ts ((es ++ record { what = happening.Write; id = t.id; tuple = t.value } ∷ []) ++ record { what = happening.Delete; id = t.id; tuple = t.value } ∷ [])
+books_over old next t ts es same h = record {
   ids = numbered-more (λ t. t.id) next ts h.ids;
   balanced = λ id. omega (arith, writes-push id es w, takes-push id es w, deletes-push id es w, writes-push id (es ++ w ∷ []) d, takes-push id (es ++ w ∷ []) d, deletes-push id (es ++ w ∷ []) d, h.balanced id);
   once = λ id.
-      let more : writes id es + cond (t.id == id) 1 0 ≤ 1 = once_more t.id id (writes id es) (h.once id) (λ above. h.unwritten id (subst (λ (n : ℕ). n ≤ id) same above)) in
+      let more : (there id old + writes id es) + cond (t.id == id) 1 0 ≤ 1 = once_more t.id id (there id old + writes id es) (h.once id) (λ above. h.unwritten id (subst (λ (n : ℕ). n ≤ id) same above)) in
       omega (arith, writes-push id es w, writes-push id (es ++ w ∷ []) d, more);
   unwritten = λ id above. omega (arith, writes-push id es w, writes-push id (es ++ w ∷ []) d, not_above t.id id (subst (λ (n : ℕ). n + 1 ≤ id) (sym same) above), h.unwritten id (omega (arith, above)));
 }
@@ -205,50 +214,72 @@ books_over next t ts es same h = record {
     d : Raised
     d = record { what = happening.Delete; id = t.id; tuple = t.value }
 
-books_settled : (ok : Bool) (tuple : ℕ) (s : Plain) → BooksOf s → BooksOf (settle_tuple ok (tuple_at s tuple) s)
-books_settled ok tuple s h = by_row ok (tuple_at s tuple) refl
+-- more was raised
+more_raised : (first es new more : List Raised) → es ≡ first ++ new → es ++ more ≡ first ++ (new ++ more)
+more_raised first es new more is = ap (λ (l : List Raised). l ++ more) is ∙ append_assoc first new more
+
+settled_books : (start : Plain) (ok : Bool) (tuple : ℕ) (s : Plain) → BooksOf start s → BooksOf start (settle_tuple ok (tuple_at s tuple) s)
+settled_books start ok tuple s h = by_row ok (tuple_at s tuple) refl
   where
-    by_row : (ok : Bool) (o : Option Entry) → tuple_at s tuple ≡ o → BooksOf (settle_tuple ok o s)
+    left : (l : Last) (t : Entry) → tuple_at s tuple ≡ Some t → BooksOf start (tuple_ended l t s)
+    left l t e = record {
+      new = h.new ++ record { what = happening_of l; id = t.id; tuple = t.value } ∷ [];
+      is = more_raised start.events s.events h.new (record { what = happening_of l; id = t.id; tuple = t.value } ∷ []) h.is;
+      books = books_left start.tuples s.next l t s.tuples h.new (itself-tuple s tuple t e) h.books;
+    }
+
+    by_row : (ok : Bool) (o : Option Entry) → tuple_at s tuple ≡ o → BooksOf start (settle_tuple ok o s)
     by_row ok None e = h
-    by_row true (Some t) e = books_left s.next last.Taken t s.tuples s.events (itself-tuple s tuple t e) h
+    by_row true (Some t) e = left last.Taken t e
     by_row false (Some t) e = by_mark t.marked
       where
-        by_mark : (b : Bool) → BooksOf (cond {A = Plain} b (tuple_ended last.Canceled t s) (with_tuple t.id (λ t. record t { holder = None }) s))
-        by_mark true = books_left s.next last.Canceled t s.tuples s.events (itself-tuple s tuple t e) h
-        by_mark false = books_changed s.next t.id (λ t. record t { holder = None }) s.tuples s.events (λ t. refl) h
+        by_mark : (b : Bool) → BooksOf start (cond {A = Plain} b (tuple_ended last.Canceled t s) (with_tuple t.id (λ t. record t { holder = None }) s))
+        by_mark true = left last.Canceled t e
+        by_mark false = record { new = h.new; is = h.is; books = books_changed start.tuples s.next t.id (λ t. record t { holder = None }) s.tuples h.new (λ t. refl) h.books }
 
-pub books_keep : (caller : ℕ) (event : Event) → Keeps caller event BooksOf
-books_keep caller event = record {
-  advances = λ s at h. h;
-  ages = λ s h. books_aged s.next s.clock s.tuples s.events h;
-  writes = λ s value lease h. books_written s.next (new_tuple s value lease) s.tuples s.events refl h;
-  writes_over = λ s value lease h. books_over s.next (new_tuple s value lease) s.tuples s.events refl h;
-  reserves = λ s k pattern lease h. books_more s.next s.tuples s.events h;
-  notifies = λ s e pattern lease h. books_more s.next s.tuples s.events h;
-  tuple_leaves = λ l t s here isfree h. books_left s.next l t s.tuples s.events here h;
-  tuple_leases = λ i f s k h. books_changed s.next i f s.tuples s.events k.id h;
-  tuple_marks = λ t holder s here isheld h. books_changed s.next t.id (λ t. record t { marked = true }) s.tuples s.events (λ t. refl) h;
-  request_leases = λ r f s there k may h. h;
-  request_asks = λ i s h. h;
-  request_marks = λ r s there is e h. h;
-  request_parks = λ r s there res mine is h. h;
-  request_answers = λ r o s there why h. h;
-  request_ends = λ l r s there none mine of h. h;
-  grants = λ r t s there here isfree why h. books_changed s.next t.id (held_by r.id) s.tuples s.events (λ t. refl) h;
-  settles = λ r tuple ok s there is mine e h. books_settled ok tuple s h;
-  notifier_changes = λ i f s k h. h;
-  notifier_ends = λ l n s h. h;
+pub books_keep : (start : Plain) (caller : ℕ) (event : Event) → Keeps caller event (BooksOf start)
+books_keep start caller event = record {
+  advances = λ s at h. record { new = h.new; is = h.is; books = h.books };
+  ages = λ s sound h. record {
+    new = h.new ++ map deleted (filter (expires s.clock) s.tuples);
+    is = more_raised start.events s.events h.new (map deleted (filter (expires s.clock) s.tuples)) h.is;
+    books = books_aged start.tuples s.next s.clock s.tuples h.new h.books;
+  };
+  writes = λ s value lease unshut h.
+      let t : Entry = new_tuple s value lease in record {
+        new = h.new ++ record { what = happening.Write; id = t.id; tuple = t.value } ∷ [];
+        is = more_raised start.events s.events h.new (record { what = happening.Write; id = t.id; tuple = t.value } ∷ []) h.is;
+        books = books_written start.tuples s.next t s.tuples h.new refl h.books;
+      };
+  writes_over = λ s value lease unshut h.
+      let t : Entry = new_tuple s value lease in
+      let w : List Raised = record { what = happening.Write; id = t.id; tuple = t.value } ∷ [] in
+      let d : List Raised = record { what = happening.Delete; id = t.id; tuple = t.value } ∷ [] in record {
+        new = (h.new ++ w) ++ d;
+        is = more_raised start.events (s.events ++ w) (h.new ++ w) d (more_raised start.events s.events h.new w h.is);
+        books = books_over start.tuples s.next t s.tuples h.new refl h.books;
+      };
+  reserves = λ s k pattern lease unshut h. record { new = h.new; is = h.is; books = books_more start.tuples s.next s.tuples h.new h.books };
+  notifies = λ s e pattern lease unshut h. record { new = h.new; is = h.is; books = books_more start.tuples s.next s.tuples h.new h.books };
+  tuple_leaves = λ l t s here isfree h. record {
+    new = h.new ++ record { what = happening_of l; id = t.id; tuple = t.value } ∷ [];
+    is = more_raised start.events s.events h.new (record { what = happening_of l; id = t.id; tuple = t.value } ∷ []) h.is;
+    books = books_left start.tuples s.next l t s.tuples h.new here h.books;
+  };
+  tuple_leases = λ i f s k h. record { new = h.new; is = h.is; books = books_changed start.tuples s.next i f s.tuples h.new k.id h.books };
+  tuple_marks = λ t holder s here isheld h. record { new = h.new; is = h.is; books = books_changed start.tuples s.next t.id (λ t. record t { marked = true }) s.tuples h.new (λ t. refl) h.books };
+  request_leases = λ r f s there k may h. record { new = h.new; is = h.is; books = h.books };
+  request_asks = λ i s h. record { new = h.new; is = h.is; books = h.books };
+  request_marks = λ r s there is e h. record { new = h.new; is = h.is; books = h.books };
+  request_parks = λ r s there res unmarked mine is h. record { new = h.new; is = h.is; books = h.books };
+  request_answers = λ r o s there why h. record { new = h.new; is = h.is; books = h.books };
+  request_ends = λ l r s there none mine of h. record { new = h.new; is = h.is; books = h.books };
+  grants = λ r t s there here isfree why h. record { new = h.new; is = h.is; books = books_changed start.tuples s.next t.id (held_by r.id) s.tuples h.new (λ t. refl) h.books };
+  settles = λ r tuple ok s there is mine e h. let g : BooksOf start (settle_tuple ok (tuple_at s tuple) s) = settled_books start ok tuple s h in record { new = g.new; is = g.is; books = g.books };
+  notifier_changes = λ i f s k h. record { new = h.new; is = h.is; books = h.books };
+  notifier_ends = λ l n s h. record { new = h.new; is = h.is; books = h.books };
+  shuts = λ s unshut is h. record { new = h.new; is = h.is; books = h.books };
 }
-
-pub books_from : (s : Plain) (h : List Turn) → LegalFrom s h → BooksOf s → BooksOf (plain_from s h)
-books_from s [] legal b = b
-books_from s (t ∷ ts) legal b = books_from (after s t) ts legal.1 (step_kept t.caller t.event BooksOf (books_keep t.caller t.event) s t.at t.out t.picks (after s t) legal.0.step b)
-
-pub books_legal : (h : List Turn) → Legal h → BooksOf (plain h)
-books_legal h legal = books_from opening h legal books_opening
-
-pub leaves_few : (id : ℕ) (s : Plain) → BooksOf s → takes id s.events + deletes id s.events ≤ 1
-leaves_few id s b = omega (arith, b.balanced id, b.once id)
 
 -- An id that was minted and names no tuple never names one again.
 
@@ -286,26 +317,104 @@ above id n h e = omega (arith, h, e)
 pub gone_keeps : (id caller : ℕ) (event : Event) → Keeps caller event (Gone id)
 gone_keeps id caller event = record {
   advances = λ s at h. record { minted = h.minted; none = h.none };
-  ages = λ s h. record { minted = h.minted; none = none_map id (aged_tuple s.clock) (filter (λ t. not (expires s.clock t)) s.tuples) (aged_id s.clock) (none_filter id (λ t. not (expires s.clock t)) s.tuples h.none) };
-  writes = λ s value lease h. record { minted = omega (arith, h.minted); none = none_push id s.tuples (new_tuple s value lease) (above id s.next h.minted) h.none };
-  writes_over = λ s value lease h. record { minted = omega (arith, h.minted); none = h.none };
-  reserves = λ s k pattern lease h. record { minted = omega (arith, h.minted); none = h.none };
-  notifies = λ s e pattern lease h. record { minted = omega (arith, h.minted); none = h.none };
+  ages = λ s sound h. record { minted = h.minted; none = none_map id (aged_tuple s.clock) (filter (λ t. not (expires s.clock t)) s.tuples) (aged_id s.clock) (none_filter id (λ t. not (expires s.clock t)) s.tuples h.none) };
+  writes = λ s value lease unshut h. record { minted = omega (arith, h.minted); none = none_push id s.tuples (new_tuple s value lease) (above id s.next h.minted) h.none };
+  writes_over = λ s value lease unshut h. record { minted = omega (arith, h.minted); none = h.none };
+  reserves = λ s k pattern lease unshut h. record { minted = omega (arith, h.minted); none = h.none };
+  notifies = λ s e pattern lease unshut h. record { minted = omega (arith, h.minted); none = h.none };
   tuple_leaves = λ l t s here isfree h. record { minted = h.minted; none = none_filter id (λ x. not (x.id == t.id)) s.tuples h.none };
   tuple_leases = λ i f s k h. record { minted = h.minted; none = none_changed id i f s.tuples k.id h.none };
   tuple_marks = λ t holder s here isheld h. record { minted = h.minted; none = none_changed id t.id (λ t. record t { marked = true }) s.tuples (λ t. refl) h.none };
   request_leases = λ r f s there k may h. record { minted = h.minted; none = h.none };
   request_asks = λ i s h. record { minted = h.minted; none = h.none };
   request_marks = λ r s there is e h. record { minted = h.minted; none = h.none };
-  request_parks = λ r s there res mine is h. record { minted = h.minted; none = h.none };
+  request_parks = λ r s there res unmarked mine is h. record { minted = h.minted; none = h.none };
   request_answers = λ r o s there why h. record { minted = h.minted; none = h.none };
   request_ends = λ l r s there none mine of h. record { minted = h.minted; none = h.none };
   grants = λ r t s there here isfree why h. record { minted = h.minted; none = none_changed id t.id (held_by r.id) s.tuples (λ t. refl) h.none };
   settles = λ r tuple ok s there is mine e h. let g = gone_settled id ok (tuple_at s tuple) s h in record { minted = g.minted; none = g.none };
   notifier_changes = λ i f s k h. record { minted = h.minted; none = h.none };
   notifier_ends = λ l n s h. record { minted = h.minted; none = h.none };
+  shuts = λ s unshut is h. record { minted = h.minted; none = h.none };
 }
 
-pub gone_from : (id : ℕ) (s : Plain) (h : List Turn) → LegalFrom s h → Gone id s → Gone id (plain_from s h)
-gone_from id s [] legal g = g
-gone_from id s (t ∷ ts) legal g = gone_from id (after s t) ts legal.1 (step_kept t.caller t.event (Gone id) (gone_keeps id t.caller t.event) s t.at t.out t.picks (after s t) legal.0.step g)
+-- The laws.
+
+nothing_old : (first : List Raised) → drop (length first) first ≡ []
+nothing_old [] = refl
+nothing_old (e ∷ es) = nothing_old es
+
+new_only : (first new : List Raised) → drop (length first) (first ++ new) ≡ new
+new_only [] new = refl
+new_only (e ∷ es) new = new_only es new
+
+append_none : (es : List Raised) → es ≡ es ++ []
+append_none [] = refl
+append_none (e ∷ es) = ap (λ (l : List Raised). e ∷ l) (append_none es)
+
+zeros : (n : ℕ) → n + 0 ≡ n
+zeros n = omega arith
+
+-- in a list of rising ids each names one row at most
+there_above : (id : ℕ) (ts : List Entry) → list_all (λ t. ltb id t.id) ts ≡ true → there id ts ≡ 0
+there_above id [] e = refl
+there_above id (t ∷ ts) e = grind (arith, nat_tests, there_above id ts)
+
+there_once : (id : ℕ) (ts : List Entry) → rising (λ t. t.id) ts ≡ true → there id ts ≤ 1
+there_once id [] e = omega arith
+there_once id (t ∷ ts) e = by_test (t.id == id) refl (there_once id ts (back _ _ e))
+  where
+    back : (a b : Bool) → (a && b) ≡ true → b ≡ true
+    back a b e = grind arith
+
+    same : (a b : ℕ) → a == b ≡ true → a ≡ b
+    same a b e = grind (arith, nat_tests)
+
+    by_test : (b : Bool) → t.id == id ≡ b → there id ts ≤ 1 → cond b 1 0 + there id ts ≤ 1
+    by_test true is few =
+        let none : there id ts ≡ 0 = there_above id ts (subst (λ (i : ℕ). list_all (λ t. ltb i t.id) ts ≡ true) (same t.id id is) (up _ _ e)) in
+        omega (arith, none)
+    by_test false is few = omega (arith, few)
+
+there_below : (id next : ℕ) (ts : List Entry) → list_all (λ t. ltb t.id next) ts ≡ true → next ≤ id → there id ts ≡ 0
+there_below id next [] e above = refl
+there_below id next (t ∷ ts) e above = grind (arith, nat_tests, there_below id next ts)
+
+pub books_start : (start : Plain) → Sound start → BooksOf start start
+books_start start sound = record {
+  new = [];
+  is = append_none start.events;
+  books = record {
+    ids = sound.numbered.tuples;
+    balanced = λ id. refl;
+    once = λ id. subst (λ (n : ℕ). n ≤ 1) (sym (zeros (there id start.tuples))) (there_once id start.tuples (up _ _ sound.numbered.tuples));
+    unwritten = λ id above. zeros (there id start.tuples) ∙ there_below id start.next start.tuples (back _ _ sound.numbered.tuples) above;
+  };
+}
+  where
+    back : (a b : Bool) → (a && b) ≡ true → b ≡ true
+    back a b e = grind arith
+
+pub books_legal : (start : Plain) (h : List Turn) → IsStart start → LegalFrom start h → BooksOf start (plain_from start h)
+books_legal start h from legal = kept_from (BooksOf start) (books_keep start) start h legal from.sound (books_start start from.sound)
+
+-- what was raised since
+pub since_is : (start s : Plain) (b : BooksOf start s) → raised_since start s ≡ b.new
+since_is start s b = ap (drop (length start.events)) b.is ∙ new_only start.events b.new
+
+pub balanced : (start s : Plain) (id : ℕ) → BooksOf start s → Balanced start id s
+balanced start s id b = record {
+  balance = subst (λ (es : List Raised). there id start.tuples + writes id es ≡ there id s.tuples + (takes id es + deletes id es)) (sym (since_is start s b)) (b.books.balanced id);
+  once = subst (λ (es : List Raised). there id start.tuples + writes id es ≤ 1) (sym (since_is start s b)) (b.books.once id);
+}
+
+pub leaves_few : (start s : Plain) (id : ℕ) → Balanced start id s → takes id (raised_since start s) + deletes id (raised_since start s) ≤ 1
+leaves_few start s id b = few (there id start.tuples + writes id (raised_since start s)) (there id s.tuples) (takes id (raised_since start s) + deletes id (raised_since start s)) b.balance b.once
+  where
+    few : (a t l : ℕ) → a ≡ t + l → a ≤ 1 → l ≤ 1
+    few a t l e le = omega (arith, e, le)
+
+pub gone_legal : (start : Plain) (before later : List Turn) (id : ℕ) → IsStart start → LegalFrom start (before ++ later) → id < (plain_from start before).next → tuple_at (plain_from start before) id ≡ None → tuple_at (plain_from start (before ++ later)) id ≡ None
+gone_legal start before later id from legal minted none =
+    subst (λ (p : Plain). tuple_at p id ≡ None) (sym (plain_from-append start before later))
+    (kept_from (Gone id) (gone_keeps id) (plain_from start before) later (LegalFrom-back start before later legal) (sound_before start before later from legal) (record { minted = minted; none = none })).none

@@ -1,15 +1,16 @@
--- When Expired and Canceled are answered.
-use Rattle.std.proofs.Common.{◌≡◌, ℕ, Bool, true, false, cond, not, ◌&&◌, ◌||◌, List, [], ◌∷◌, ◌++◌, Option, Some, None, refl, sym, ◌∙◌, ap, arith}
+-- When Expired is answered.
+use Rattle.std.proofs.Common.{◌≡◌, ℕ, Bool, true, false, cond, not, ◌&&◌, ◌||◌, List, [], ◌∷◌, Option, Some, None, refl, sym, ◌∙◌, ap, arith}
 use Rattle.std.specs.Prelude.{◌==◌, is_none}
 use Rattle.rinda_tuple.specs.declared.lease.Lease.{Lease}
 use Rattle.rinda_tuple.specs.Lives.{deadline}
 use Rattle.rinda_rules.specs.declared.object.ObjectKind.{ObjectKind}
 use Rattle.rinda_rules.specs.declared.object.ObjectKind.TheVariants as object
+use Rattle.rinda_rules.specs.declared.object.Last.{Last}
 use Rattle.rinda_rules.specs.declared.object.Last.TheVariants as last
 use Rattle.rinda_rules.specs.declared.event.Kind.{Kind}
 use Rattle.rinda_rules.specs.declared.event.Kind.TheVariants as kind
 use Rattle.rinda_rules.specs.declared.event.Event.{Event}
-use Rattle.rinda_rules.specs.declared.event.Event.TheVariants.{Write, Reserve, Submit, Collect, Settle, Withdraw, Cancel, Renew, Look, Value, ReadAll, Notify, Pop, NextAsk, Asked, Tick}
+use Rattle.rinda_rules.specs.declared.event.Event.TheVariants.{Write, Reserve, Submit, Collect, Settle, Withdraw, Cancel, Renew, Look, Value, ReadAll, Notify, Pop, NextAsk, Asked, Tick, Shut}
 use Rattle.rinda_rules.specs.declared.out.Out.{Out}
 use Rattle.rinda_rules.specs.declared.out.Out.TheVariants as out
 use Rattle.rinda_rules.specs.declared.row.RequestState.{RequestState}
@@ -21,25 +22,94 @@ use Rattle.rinda_rules.specs.declared.plain.Hearing.{Hearing}
 use Rattle.rinda_rules.specs.declared.plain.Hearing.TheVariants as hearing
 use Rattle.rinda_rules.specs.declared.plain.Raised.{Raised}
 use Rattle.rinda_rules.specs.declared.turn.Pick.{Pick}
-use Rattle.rinda_rules.specs.declared.turn.Turn.{Turn}
-use Rattle.rinda_rules.specs.Space.{Plain, Found, TheTuple, TheRequest, TheNotifier, HasEnded, IsRecycled, IsUnknown, found, tuple_at, is_over, is_reserved, has_match}
+use Rattle.rinda_rules.specs.Space.{Plain, Found, TheTuple, TheRequest, TheNotifier, HasEnded, IsRecycled, IsUnknown, found, request_at, tuple_at, is_over, is_reserved, has_match}
 use Rattle.rinda_rules.specs.Queue.{queue}
 use Rattle.rinda_rules.specs.Phases.{may_have_row, served_as, request_in, request_ended}
-use Rattle.rinda_rules.specs.Cases.{Outcome, answers, on_own, submit, collect_served, collect, settle, pop, pop_empty, pop_queue, pop_ended, withdraw, withdraw_request, cancel, renew, look, value, value_ended, ask, Asking, askings, least, told, outcome}
-use Rattle.rinda_rules.specs.Steps.{Case, chooser, matched, found_by}
-use Rattle.rinda_rules.specs.Fixed.{after}
-use Rattle.rinda_rules.specs.Legal.{plain, Legal}
-use Rattle.rinda_rules.specs.Space.{opening}
-use Rattle.rinda_laws.specs.Decides.{is_expired_out, is_canceled_out, was_expired, was_canceled, submit_expires, collect_expires, pop_expires, may_expire, request_canceled, may_cancel, is_notifier}
-use Rattle.rinda_laws.proofs.Staying.{LegalFrom-back}
+use Rattle.rinda_rules.specs.Cases.{Outcome, answers, on_own, submit, collect_served, collect, settle, pop, pop_empty, pop_queue, pop_ended, withdraw, withdraw_request, cancel, renew, look, value, value_ended, ask, Asking, askings, least, told, shut_down, outcome}
+use Rattle.rinda_rules.specs.Steps.{Case, chooser, matched}
+use Rattle.rinda_rules.proofs.Finding.{found-request}
+use Rattle.rinda_laws.specs.Decides.{asks_for, SubmitsLate}
+
+abbrev pub is_expired_out : Out → Bool
+is_expired_out out.Expired = true
+is_expired_out _ = false
+
+abbrev pub is_canceled_out : Out → Bool
+is_canceled_out out.Canceled = true
+is_canceled_out _ = false
+
+-- the request was answered Expired before
+abbrev pub was_expired : RequestState → Bool
+was_expired state.Reserved = false
+was_expired state.Parked = false
+was_expired (state.Granted tuple) = false
+was_expired (state.Answered o) = is_expired_out o
+
+abbrev pub was_canceled : RequestState → Bool
+was_canceled state.Reserved = false
+was_canceled state.Parked = false
+was_canceled (state.Granted tuple) = false
+was_canceled (state.Answered o) = is_canceled_out o
+
+-- at a Submit: the deadline is at most now, there is no renewer, and no match
+abbrev submit_expires : Plain → Found → Bool
+submit_expires s (TheRequest r) = is_over s.clock r.deadline && (is_none r.renewer && not (has_match s r))
+submit_expires s (TheTuple t) = false
+submit_expires s (TheNotifier n) = false
+submit_expires s (HasEnded kind last) = false
+submit_expires s IsRecycled = false
+submit_expires s IsUnknown = false
+
+-- at a Collect: it was answered so before
+abbrev collect_expires : Found → Bool
+collect_expires (TheRequest r) = was_expired r.state
+collect_expires (TheTuple t) = false
+collect_expires (TheNotifier n) = false
+collect_expires (HasEnded kind last) = false
+collect_expires IsRecycled = false
+collect_expires IsUnknown = false
+
+abbrev is_notifier : ObjectKind → Bool
+is_notifier object.Entry = false
+is_notifier object.Request = false
+is_notifier object.Notifier = true
+
+-- at a Pop: the notifier has ended
+abbrev pop_expires : Found → Bool
+pop_expires (TheRequest r) = false
+pop_expires (TheTuple t) = false
+pop_expires (TheNotifier n) = false
+pop_expires (HasEnded kind last) = is_notifier kind
+pop_expires IsRecycled = false
+pop_expires IsUnknown = false
+
+-- the event may answer Expired in that space
+abbrev may_expire : Plain → Event → Bool
+may_expire s (Write value lease) = false
+may_expire s (Reserve kind pattern lease) = false
+may_expire s (Submit id) = submit_expires s (found s id)
+may_expire s (Collect id) = collect_expires (found s id)
+may_expire s (Settle id ok) = false
+may_expire s (Withdraw id) = collect_expires (found s id) || pop_expires (found s id)
+may_expire s (Cancel id) = false
+may_expire s (Renew id lease) = false
+may_expire s (Look id) = false
+may_expire s (Value id) = false
+may_expire s (ReadAll pattern) = false
+may_expire s (Notify event pattern lease) = false
+may_expire s (Pop id) = pop_expires (found s id)
+may_expire s NextAsk = false
+may_expire s (Asked id life) = false
+may_expire s Tick = false
+may_expire s Shut = false
 
 back : (a b : Bool) → (a && b) ≡ true → b ≡ true
 back a b e = grind arith
 
-or_left : (a b : Bool) → a ≡ true → (a || b) ≡ true
+pub or_left : (a b : Bool) → a ≡ true → (a || b) ≡ true
 or_left a b e = grind arith
 
-or_right : (a b : Bool) → b ≡ true → (a || b) ≡ true
+pub or_right : (a b : Bool) → b ≡ true → (a || b) ≡ true
 or_right a b e = grind arith
 
 -- Expired.
@@ -63,12 +133,12 @@ submit_expired s caller choice IsRecycled none e = cc
 submit_expired s caller choice IsUnknown none e = cc
 submit_expired s caller choice (TheRequest r) none e = by_own (r.caller == caller) refl e
   where
-    fits : (a b c : Bool) → (a && b) ≡ true → c ≡ false → (a && (b && not c)) ≡ true
-    fits a b c x y = grind arith
+    matches : (a b c : Bool) → (a && b) ≡ true → c ≡ false → (a && (b && not c)) ≡ true
+    matches a b c x y = grind arith
 
     by_tests : (marked over : Bool) → over ≡ (is_over s.clock r.deadline && is_none r.renewer) → has_match s r ≡ false → is_expired_out (cond {A = Outcome} marked (answers (request_ended last.Canceled r.id s) out.Canceled) (cond {A = Outcome} over (answers (request_ended last.Expired r.id s) out.Expired) (answers (request_in r.id state.Parked s) (out.Parked r.id)))).out ≡ true → submit_expires s (TheRequest r) ≡ true
     by_tests true over is nomatch e = cc
-    by_tests false true is nomatch e = fits (is_over s.clock r.deadline) (is_none r.renewer) (has_match s r) (sym is) nomatch
+    by_tests false true is nomatch e = matches (is_over s.clock r.deadline) (is_none r.renewer) (has_match s r) (sym is) nomatch
     by_tests false false is nomatch e = cc
 
     by_kind : (k : Kind) (t : Entry) → is_expired_out (collect_served (served_as k r t s) r t k).out ≡ true → submit_expires s (TheRequest r) ≡ true
@@ -112,7 +182,7 @@ queue_not_expired s n nothing [] e = by_state n.state
     by_state (hearing.Closed l u) = refl
 queue_not_expired s n nothing (x ∷ xs) e = refl
 
-contra : (b : Bool) → b ≡ true → b ≡ false → ⊥
+pub contra : (b : Bool) → b ≡ true → b ≡ false → ⊥
 contra b x y = grind arith
 
 collect_own : (s : Plain) (caller : ℕ) (f : Found) → is_expired_out (on_own s caller (λ r. collect s r r.state) f).out ≡ true → collect_expires f ≡ true
@@ -167,11 +237,19 @@ pop_own s IsUnknown e = cc
 
 -- the other cases answer neither
 
-ask_not : (s : Plain) (a : Option Asking) → (is_expired_out (ask s a).out ≡ false) × (is_canceled_out (ask s a).out ≡ false)
+pub unless_not : (b : Bool) (s : Plain) (o : Outcome) → (is_expired_out o.out ≡ false) × (is_canceled_out o.out ≡ false) → (is_expired_out (cond {A = Outcome} b (answers s out.Shut) o).out ≡ false) × (is_canceled_out (cond {A = Outcome} b (answers s out.Shut) o).out ≡ false)
+unless_not true s o e = (refl, refl)
+unless_not false s o e = e
+
+pub shut_not : (s : Plain) (b : Bool) → (is_expired_out (cond {A = Outcome} b (answers s out.NotYet) (answers (shut_down s) out.Plain)).out ≡ false) × (is_canceled_out (cond {A = Outcome} b (answers s out.NotYet) (answers (shut_down s) out.Plain)).out ≡ false)
+shut_not s true = (refl, refl)
+shut_not s false = (refl, refl)
+
+pub ask_not : (s : Plain) (a : Option Asking) → (is_expired_out (ask s a).out ≡ false) × (is_canceled_out (ask s a).out ≡ false)
 ask_not s None = (refl, refl)
 ask_not s (Some a) = (refl, refl)
 
-cancel_not : (s : Plain) (f : Found) → (is_expired_out (cancel s f).out ≡ false) × (is_canceled_out (cancel s f).out ≡ false)
+pub cancel_not : (s : Plain) (f : Found) → (is_expired_out (cancel s f).out ≡ false) × (is_canceled_out (cancel s f).out ≡ false)
 cancel_not s (TheRequest r) = (refl, refl)
 cancel_not s (TheTuple t) = (refl, refl)
 cancel_not s (TheNotifier n) = (refl, refl)
@@ -179,7 +257,7 @@ cancel_not s (HasEnded k l) = (refl, refl)
 cancel_not s IsRecycled = (refl, refl)
 cancel_not s IsUnknown = (refl, refl)
 
-renew_not : (s : Plain) (lease : Lease) (f : Found) → (is_expired_out (renew s lease f).out ≡ false) × (is_canceled_out (renew s lease f).out ≡ false)
+pub renew_not : (s : Plain) (lease : Lease) (f : Found) → (is_expired_out (renew s lease f).out ≡ false) × (is_canceled_out (renew s lease f).out ≡ false)
 renew_not s lease (TheRequest r) = (refl, refl)
 renew_not s lease (TheTuple t) = (refl, refl)
 renew_not s lease (TheNotifier n) = (refl, refl)
@@ -187,7 +265,7 @@ renew_not s lease (HasEnded k l) = (refl, refl)
 renew_not s lease IsRecycled = (refl, refl)
 renew_not s lease IsUnknown = (refl, refl)
 
-look_not : (s : Plain) (f : Found) → (is_expired_out (look s f).out ≡ false) × (is_canceled_out (look s f).out ≡ false)
+pub look_not : (s : Plain) (f : Found) → (is_expired_out (look s f).out ≡ false) × (is_canceled_out (look s f).out ≡ false)
 look_not s (TheRequest r) = (refl, refl)
 look_not s (TheTuple t) = (refl, refl)
 look_not s (TheNotifier n) = (refl, refl)
@@ -200,7 +278,7 @@ value_ended_not object.Entry = (refl, refl)
 value_ended_not object.Request = (refl, refl)
 value_ended_not object.Notifier = (refl, refl)
 
-value_not : (s : Plain) (f : Found) → (is_expired_out (value s f).out ≡ false) × (is_canceled_out (value s f).out ≡ false)
+pub value_not : (s : Plain) (f : Found) → (is_expired_out (value s f).out ≡ false) × (is_canceled_out (value s f).out ≡ false)
 value_not s (TheRequest r) = (refl, refl)
 value_not s (TheTuple t) = (refl, refl)
 value_not s (TheNotifier n) = (refl, refl)
@@ -208,7 +286,7 @@ value_not s (HasEnded k l) = value_ended_not k
 value_not s IsRecycled = (refl, refl)
 value_not s IsUnknown = (refl, refl)
 
-told_not : (s : Plain) (d : Option ℕ) (f : Found) → (is_expired_out (told s d f).out ≡ false) × (is_canceled_out (told s d f).out ≡ false)
+pub told_not : (s : Plain) (d : Option ℕ) (f : Found) → (is_expired_out (told s d f).out ≡ false) × (is_canceled_out (told s d f).out ≡ false)
 told_not s d (TheRequest r) = (refl, refl)
 told_not s d (TheTuple t) = (refl, refl)
 told_not s d (TheNotifier n) = (refl, refl)
@@ -217,8 +295,8 @@ told_not s d IsRecycled = (refl, refl)
 told_not s d IsUnknown = (refl, refl)
 
 expired_outcome : (s : Plain) (caller : ℕ) (event : Event) (choice : Option Entry) → (choice ≡ None → chooser s caller event ≡ None) → is_expired_out (outcome s caller event choice).out ≡ true → may_expire s event ≡ true
-expired_outcome s caller (Write v lease) choice none e = cc
-expired_outcome s caller (Reserve k pattern lease) choice none e = cc
+expired_outcome s caller (Write v lease) choice none e = absurd (contra _ e ((unless_not s.shut s _ (refl, refl)).0))
+expired_outcome s caller (Reserve k pattern lease) choice none e = absurd (contra _ e ((unless_not s.shut s _ (refl, refl)).0))
 expired_outcome s caller (Submit id) choice none e = submit_expired s caller choice (found s id) none e
 expired_outcome s caller (Collect id) choice none e = collect_own s caller (found s id) e
 expired_outcome s caller (Settle id ok) choice none e = absurd (contra _ e (settle_own s caller ok (found s id)))
@@ -228,154 +306,74 @@ expired_outcome s caller (Renew id lease) choice none e = absurd (contra _ e ((r
 expired_outcome s caller (Look id) choice none e = absurd (contra _ e ((look_not s (found s id)).0))
 expired_outcome s caller (Value id) choice none e = absurd (contra _ e ((value_not s (found s id)).0))
 expired_outcome s caller (ReadAll pattern) choice none e = cc
-expired_outcome s caller (Notify x pattern lease) choice none e = cc
+expired_outcome s caller (Notify x pattern lease) choice none e = absurd (contra _ e ((unless_not s.shut s _ (refl, refl)).0))
 expired_outcome s caller (Pop id) choice none e = pop_own s (found s id) e
 expired_outcome s caller NextAsk choice none e = absurd (contra _ e ((ask_not s (least (askings s))).0))
 expired_outcome s caller (Asked id life) choice none e = absurd (contra _ e ((told_not s (deadline life s.clock) (found s id)).0))
 expired_outcome s caller Tick choice none e = cc
+expired_outcome s caller Shut choice none e = absurd (contra _ e ((shut_not s s.shut).0))
 
 row_there : (s : Plain) (r : Request) (o : Option Entry) → may_have_row s r o ≡ true → o ≡ None → ⊥
 row_there s r None e is = cc
 row_there s r (Some t) e is = cc
 
-expired_case : (s : Plain) (caller : ℕ) (event : Event) (r : Option Request) (o : Out) (picks : List Pick) (s' : Plain) → chooser s caller event ≡ r → Case s caller event r o picks s' → is_expired_out o ≡ true → may_expire s event ≡ true
+pub expired_case : (s : Plain) (caller : ℕ) (event : Event) (r : Option Request) (o : Out) (picks : List Pick) (s' : Plain) → chooser s caller event ≡ r → Case s caller event r o picks s' → is_expired_out o ≡ true → may_expire s event ≡ true
 expired_case s caller event None o picks s' chooses case e = expired_outcome s caller event None (λ _. chooses) (ap is_expired_out (sym case.0) ∙ e)
 expired_case s caller event (Some r) o [] s' chooses case e = absurd case
 expired_case s caller event (Some r) o (pick ∷ picks) s' chooses case e = expired_outcome s caller event (tuple_at s pick.tuple) (λ nochoice. absurd (row_there s r (tuple_at s pick.tuple) (back _ _ case.0) nochoice)) (ap is_expired_out (sym case.1) ∙ e)
 
-pub expired_only : (h : List Turn) (turn : Turn) → Legal (h ++ turn ∷ []) → turn.out ≡ out.Expired → may_expire (found_by (plain h) turn.at) turn.event ≡ true
-expired_only h turn legal e =
-    expired_case (found_by (plain h) turn.at) turn.caller turn.event (chooser (found_by (plain h) turn.at) turn.caller turn.event) turn.out turn.picks (after (plain h) turn) refl (LegalFrom-back opening h (turn ∷ []) legal).0.step (ap is_expired_out e)
+-- Why.
 
--- Canceled.
+-- why the event is answered Expired in that space
+pub data Expires (s : Plain) (event : Event) : Type 0 where
+  submits : (id : ℕ) → event ≡ Submit id → SubmitsLate id s → Expires s event
+  answered : (id : ℕ) (r : Request) → asks_for event ≡ Some id → request_at s id ≡ Some r → was_expired r.state ≡ true → Expires s event
+  has_ended : (id : ℕ) (last : Last) → asks_for event ≡ Some id → found s id ≡ HasEnded object.Notifier last → Expires s event
 
-submit_canceled : (s : Plain) (caller : ℕ) (choice : Option Entry) (f : Found) → is_canceled_out (on_own s caller (λ r. submit s r choice r.state) f).out ≡ true → request_canceled f ≡ true
-submit_canceled s caller choice (TheTuple t) e = cc
-submit_canceled s caller choice (TheNotifier n) e = cc
-submit_canceled s caller choice (HasEnded k l) e = cc
-submit_canceled s caller choice IsRecycled e = cc
-submit_canceled s caller choice IsUnknown e = cc
-submit_canceled s caller choice (TheRequest r) e = by_own (r.caller == caller) e
+three : (a b c : Bool) → (a && (b && not c)) ≡ true → (a ≡ true) × (b ≡ true) × (c ≡ false)
+three a b c e = (grind arith, grind arith, grind arith)
+
+late_of : (s : Plain) (id : ℕ) (f : Found) → found s id ≡ f → submit_expires s f ≡ true → SubmitsLate id s
+late_of s id (TheRequest r) is e =
+    let parts = three (is_over s.clock r.deadline) (is_none r.renewer) (has_match s r) e in
+    record { row = r; there = found-request s id r is; over = parts.0; alone = parts.1; unmatched = parts.2 }
+late_of s id (TheTuple t) is e = cc
+late_of s id (TheNotifier n) is e = cc
+late_of s id (HasEnded k l) is e = cc
+late_of s id IsRecycled is e = cc
+late_of s id IsUnknown is e = cc
+
+by_kind : (s : Plain) (event : Event) (id : ℕ) (k : ObjectKind) (l : Last) → asks_for event ≡ Some id → found s id ≡ HasEnded k l → is_notifier k ≡ true → Expires s event
+by_kind s event id object.Entry l asks is e = cc
+by_kind s event id object.Request l asks is e = cc
+by_kind s event id object.Notifier l asks is e = has_ended id l asks is
+
+asked_of : (s : Plain) (event : Event) (id : ℕ) (f : Found) → asks_for event ≡ Some id → found s id ≡ f → (collect_expires f || pop_expires f) ≡ true → Expires s event
+asked_of s event id (TheRequest r) asks is e = answered id r asks (found-request s id r is) (left (was_expired r.state) e)
   where
-    by_tests : (marked over : Bool) → r.marked ≡ marked → is_canceled_out (cond {A = Outcome} marked (answers (request_ended last.Canceled r.id s) out.Canceled) (cond {A = Outcome} over (answers (request_ended last.Expired r.id s) out.Expired) (answers (request_in r.id state.Parked s) (out.Parked r.id)))).out ≡ true → request_canceled (TheRequest r) ≡ true
-    by_tests true over is e = or_left r.marked (was_canceled r.state) is
-    by_tests false true is e = cc
-    by_tests false false is e = cc
+    left : (a : Bool) → (a || false) ≡ true → a ≡ true
+    left a e = grind arith
+asked_of s event id (TheTuple t) asks is e = cc
+asked_of s event id (TheNotifier n) asks is e = cc
+asked_of s event id (HasEnded k l) asks is e = by_kind s event id k l asks is e
+asked_of s event id IsRecycled asks is e = cc
+asked_of s event id IsUnknown asks is e = cc
 
-    by_kind : (k : Kind) (t : Entry) → is_canceled_out (collect_served (served_as k r t s) r t k).out ≡ true → request_canceled (TheRequest r) ≡ true
-    by_kind kind.Read t e = cc
-    by_kind kind.Take t e = cc
-    by_kind kind.Move t e = cc
-
-    by_state : (st : RequestState) (o : Option Entry) → is_canceled_out (submit s r o st).out ≡ true → request_canceled (TheRequest r) ≡ true
-    by_state state.Reserved None e = by_tests r.marked (is_over s.clock r.deadline && is_none r.renewer) refl e
-    by_state state.Reserved (Some t) e = by_kind r.kind t e
-    by_state state.Parked o e = cc
-    by_state (state.Granted t) o e = cc
-    by_state (state.Answered a) o e = cc
-
-    by_own : (b : Bool) → is_canceled_out (cond {A = Outcome} b (submit s r choice r.state) (answers s out.WrongKind)).out ≡ true → request_canceled (TheRequest r) ≡ true
-    by_own true e = by_state r.state choice e
-    by_own false e = cc
-
-collect_canceled : (s : Plain) (r : Request) (st : RequestState) → is_canceled_out (collect s r st).out ≡ true → was_canceled st ≡ true
-collect_canceled s r state.Reserved e = cc
-collect_canceled s r state.Parked e = cc
-collect_canceled s r (state.Granted t) e = cc
-collect_canceled s r (state.Answered o) e = e
-
-withdraw_canceled : (s : Plain) (r : Request) (st : RequestState) → is_canceled_out (withdraw_request s r st).out ≡ true → was_canceled st ≡ true
-withdraw_canceled s r state.Reserved e = cc
-withdraw_canceled s r state.Parked e = cc
-withdraw_canceled s r (state.Granted t) e = cc
-withdraw_canceled s r (state.Answered o) e = e
-
-collect_own_canceled : (s : Plain) (caller : ℕ) (f : Found) → is_canceled_out (on_own s caller (λ r. collect s r r.state) f).out ≡ true → request_canceled f ≡ true
-collect_own_canceled s caller (TheTuple t) e = cc
-collect_own_canceled s caller (TheNotifier n) e = cc
-collect_own_canceled s caller (HasEnded k l) e = cc
-collect_own_canceled s caller IsRecycled e = cc
-collect_own_canceled s caller IsUnknown e = cc
-collect_own_canceled s caller (TheRequest r) e = or_right r.marked (was_canceled r.state) (by_own (r.caller == caller) e)
-  where
-    by_own : (b : Bool) → is_canceled_out (cond {A = Outcome} b (collect s r r.state) (answers s out.WrongKind)).out ≡ true → was_canceled r.state ≡ true
-    by_own true e = collect_canceled s r r.state e
-    by_own false e = cc
-
-ended_not_canceled : (k : ObjectKind) → is_canceled_out (pop_ended k) ≡ false
-ended_not_canceled object.Entry = refl
-ended_not_canceled object.Request = refl
-ended_not_canceled object.Notifier = refl
-
-queue_not_canceled : (s : Plain) (n : Notifier) (nothing : Out) (es : List Raised) → is_canceled_out nothing ≡ false → is_canceled_out (pop_queue s n nothing es).out ≡ false
-queue_not_canceled s n nothing [] e = by_state n.state
-  where
-    by_state : (st : Hearing) → is_canceled_out (pop_empty s n nothing st).out ≡ false
-    by_state hearing.Running = e
-    by_state (hearing.Closed l u) = refl
-queue_not_canceled s n nothing (x ∷ xs) e = refl
-
-withdraw_own_canceled : (s : Plain) (caller : ℕ) (f : Found) → is_canceled_out (withdraw s caller f).out ≡ true → request_canceled f ≡ true
-withdraw_own_canceled s caller (TheTuple t) e = cc
-withdraw_own_canceled s caller (TheNotifier n) e = absurd (contra _ e (queue_not_canceled s n out.WouldWait (queue n s.events) refl))
-withdraw_own_canceled s caller (HasEnded k l) e = absurd (contra _ e (ended_not_canceled k))
-withdraw_own_canceled s caller IsRecycled e = cc
-withdraw_own_canceled s caller IsUnknown e = cc
-withdraw_own_canceled s caller (TheRequest r) e = or_right r.marked (was_canceled r.state) (by_own (r.caller == caller) e)
-  where
-    by_own : (b : Bool) → is_canceled_out (cond {A = Outcome} b (withdraw_request s r r.state) (answers s out.WrongKind)).out ≡ true → was_canceled r.state ≡ true
-    by_own true e = withdraw_canceled s r r.state e
-    by_own false e = cc
-
-settle_own_canceled : (s : Plain) (caller : ℕ) (ok : Bool) (f : Found) → is_canceled_out (on_own s caller (λ r. settle s r ok r.state) f).out ≡ false
-settle_own_canceled s caller ok (TheTuple t) = refl
-settle_own_canceled s caller ok (TheNotifier n) = refl
-settle_own_canceled s caller ok (HasEnded k l) = refl
-settle_own_canceled s caller ok IsRecycled = refl
-settle_own_canceled s caller ok IsUnknown = refl
-settle_own_canceled s caller ok (TheRequest r) = by_own (r.caller == caller)
-  where
-    by_state : (st : RequestState) → is_canceled_out (settle s r ok st).out ≡ false
-    by_state state.Reserved = refl
-    by_state state.Parked = refl
-    by_state (state.Granted t) = refl
-    by_state (state.Answered o) = refl
-
-    by_own : (b : Bool) → is_canceled_out (cond {A = Outcome} b (settle s r ok r.state) (answers s out.WrongKind)).out ≡ false
-    by_own true = by_state r.state
-    by_own false = refl
-
-pop_own_canceled : (s : Plain) (f : Found) → is_canceled_out (pop s f).out ≡ false
-pop_own_canceled s (TheRequest r) = refl
-pop_own_canceled s (TheTuple t) = refl
-pop_own_canceled s (TheNotifier n) = queue_not_canceled s n out.NotYet (queue n s.events) refl
-pop_own_canceled s (HasEnded k l) = ended_not_canceled k
-pop_own_canceled s IsRecycled = refl
-pop_own_canceled s IsUnknown = refl
-
-canceled_outcome : (s : Plain) (caller : ℕ) (event : Event) (choice : Option Entry) → is_canceled_out (outcome s caller event choice).out ≡ true → may_cancel s event ≡ true
-canceled_outcome s caller (Write v lease) choice e = cc
-canceled_outcome s caller (Reserve k pattern lease) choice e = cc
-canceled_outcome s caller (Submit id) choice e = submit_canceled s caller choice (found s id) e
-canceled_outcome s caller (Collect id) choice e = collect_own_canceled s caller (found s id) e
-canceled_outcome s caller (Settle id ok) choice e = absurd (contra _ e (settle_own_canceled s caller ok (found s id)))
-canceled_outcome s caller (Withdraw id) choice e = withdraw_own_canceled s caller (found s id) e
-canceled_outcome s caller (Cancel id) choice e = absurd (contra _ e ((cancel_not s (found s id)).1))
-canceled_outcome s caller (Renew id lease) choice e = absurd (contra _ e ((renew_not s lease (found s id)).1))
-canceled_outcome s caller (Look id) choice e = absurd (contra _ e ((look_not s (found s id)).1))
-canceled_outcome s caller (Value id) choice e = absurd (contra _ e ((value_not s (found s id)).1))
-canceled_outcome s caller (ReadAll pattern) choice e = cc
-canceled_outcome s caller (Notify x pattern lease) choice e = cc
-canceled_outcome s caller (Pop id) choice e = absurd (contra _ e (pop_own_canceled s (found s id)))
-canceled_outcome s caller NextAsk choice e = absurd (contra _ e ((ask_not s (least (askings s))).1))
-canceled_outcome s caller (Asked id life) choice e = absurd (contra _ e ((told_not s (deadline life s.clock) (found s id)).1))
-canceled_outcome s caller Tick choice e = cc
-
-canceled_case : (s : Plain) (caller : ℕ) (event : Event) (r : Option Request) (o : Out) (picks : List Pick) (s' : Plain) → Case s caller event r o picks s' → is_canceled_out o ≡ true → may_cancel s event ≡ true
-canceled_case s caller event None o picks s' case e = canceled_outcome s caller event None (ap is_canceled_out (sym case.0) ∙ e)
-canceled_case s caller event (Some r) o [] s' case e = absurd case
-canceled_case s caller event (Some r) o (pick ∷ picks) s' case e = canceled_outcome s caller event (tuple_at s pick.tuple) (ap is_canceled_out (sym case.1) ∙ e)
-
-pub canceled_is_marked : (h : List Turn) (turn : Turn) → Legal (h ++ turn ∷ []) → turn.out ≡ out.Canceled → may_cancel (found_by (plain h) turn.at) turn.event ≡ true
-canceled_is_marked h turn legal e =
-    canceled_case (found_by (plain h) turn.at) turn.caller turn.event (chooser (found_by (plain h) turn.at) turn.caller turn.event) turn.out turn.picks (after (plain h) turn) (LegalFrom-back opening h (turn ∷ []) legal).0.step (ap is_canceled_out e)
+pub why_expired : (s : Plain) (event : Event) → may_expire s event ≡ true → Expires s event
+why_expired s (Submit id) e = submits id refl (late_of s id (found s id) refl e)
+why_expired s (Collect id) e = asked_of s (Collect id) id (found s id) refl refl (or_left _ _ e)
+why_expired s (Withdraw id) e = asked_of s (Withdraw id) id (found s id) refl refl e
+why_expired s (Pop id) e = asked_of s (Pop id) id (found s id) refl refl (or_right _ _ e)
+why_expired s (Write v lease) e = cc
+why_expired s (Reserve k pattern lease) e = cc
+why_expired s (Settle id ok) e = cc
+why_expired s (Cancel id) e = cc
+why_expired s (Renew id lease) e = cc
+why_expired s (Look id) e = cc
+why_expired s (Value id) e = cc
+why_expired s (ReadAll pattern) e = cc
+why_expired s (Notify x pattern lease) e = cc
+why_expired s NextAsk e = cc
+why_expired s (Asked id life) e = cc
+why_expired s Tick e = cc
+why_expired s Shut e = cc

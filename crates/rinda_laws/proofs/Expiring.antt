@@ -11,7 +11,7 @@ use Rattle.rinda_rules.specs.declared.object.Last.TheVariants as last
 use Rattle.rinda_rules.specs.declared.event.Kind.{Kind}
 use Rattle.rinda_rules.specs.declared.event.Kind.TheVariants as kind
 use Rattle.rinda_rules.specs.declared.event.Event.{Event}
-use Rattle.rinda_rules.specs.declared.event.Event.TheVariants.{Write, Reserve, Submit, Collect, Settle, Withdraw, Cancel, Renew, Look, Value, ReadAll, Notify, Pop, NextAsk, Asked, Tick}
+use Rattle.rinda_rules.specs.declared.event.Event.TheVariants.{Write, Reserve, Submit, Collect, Settle, Withdraw, Cancel, Renew, Look, Value, ReadAll, Notify, Pop, NextAsk, Asked, Tick, Shut}
 use Rattle.rinda_rules.specs.declared.out.Out.{Out}
 use Rattle.rinda_rules.specs.declared.out.Out.TheVariants as out
 use Rattle.rinda_rules.specs.declared.row.RequestState.{RequestState}
@@ -25,17 +25,26 @@ use Rattle.rinda_rules.specs.declared.plain.Raised.{Raised}
 use Rattle.rinda_rules.specs.declared.turn.Pick.{Pick}
 use Rattle.rinda_rules.specs.declared.turn.Turn.{Turn}
 use Rattle.rinda_rules.specs.Rows.{row_of, changed, without}
-use Rattle.rinda_rules.specs.Space.{Plain, opening, Found, TheTuple, TheRequest, TheNotifier, HasEnded, IsRecycled, IsUnknown, found, request_at, tuple_at, is_over, renewer_of, is_waiting, is_due_request, is_read, fits, value_of}
+use Rattle.rinda_rules.specs.Space.{Plain, Found, TheTuple, TheRequest, TheNotifier, HasEnded, IsRecycled, IsUnknown, found, request_at, tuple_at, is_over, renewer_of, is_waiting, is_reserved, is_parked, is_due_request, is_read}
+use Rattle.rinda_tuple.specs.Matching.{matches}
+use Rattle.rinda_tuple.specs.Tuples.{value_of}
 use Rattle.rinda_rules.specs.Queue.{queue}
-use Rattle.rinda_rules.specs.Phases.{advanced, aged, aged_request, in_state, request_in, request_ended, served, served_as, served_rows, Serve}
-use Rattle.rinda_rules.specs.Cases.{Outcome, answers, minted, new_tuple, new_request, read_by, written, written_over, write, on_own, submit, collect_served, collect, settle, settle_tuple, pop_empty, pop_queue, pop, withdraw_request, withdraw, cancel_tuple, cancel_request, cancel_notifier, cancel, renewed_request, renew_request, renew_notifier, renew_with, look, value, Asking, askings, least, asked_doubt, ask, is_asked, told, with_tuple, with_request, with_notifier, renewed_tuple, renewed_notifier, outcome}
+use Rattle.rinda_rules.specs.Sound.{Sound}
+use Rattle.rinda_rules.proofs.AtOnce.{aging_at_once}
+use Rattle.rinda_rules.proofs.Keeping.{chosen_none, chosen_match, with_new_request, with_new_notifier}
+use Rattle.rinda_rules.specs.Phases.{advanced, aged, in_state, request_in, request_ended, served, served_as, served_rows, Serve, with_tuple, with_request, with_notifier}
+use Rattle.rinda_rules.specs.AtOnce.{aged_at_once, aged_request}
+use Rattle.rinda_rules.specs.Cases.{Outcome, answers, minted, new_tuple, new_request, read_by, written, written_over, write_tuple, shut_request, shut_down, on_own, submit, collect_served, collect, settle, settle_tuple, pop_empty, pop_queue, pop, withdraw_request, withdraw, cancel_tuple, cancel_request, cancel_notifier, cancel, renewed_request, renew_request, renew_notifier, renew_with, look, value, Asking, askings, least, asked_doubt, ask, is_asked, told, renewed_tuple, renewed_notifier, outcome}
 use Rattle.rinda_rules.specs.Steps.{Case, Step, chooser, found_by}
 use Rattle.rinda_rules.specs.Fixed.{after}
-use Rattle.rinda_rules.specs.Legal.{plain_from, plain, LegalFrom, Legal}
+use Rattle.rinda_rules.specs.Legal.{plain_from, LegalFrom}
 use Rattle.rinda_rules.proofs.Lists.{row_map}
-use Rattle.rinda_laws.specs.Decides.{was_expired, RunsOut, choice_of, left_by, DecidesSo, as_it_comes, as_it_leaves, Decided}
-use Rattle.rinda_laws.proofs.Telling.{settle_keeps}
-use Rattle.rinda_laws.proofs.Staying.{LegalFrom-front}
+use Rattle.rinda_laws.specs.Decides.{ExpiredBecause, late, decided, ended, RunsOut, choice_of, left_by, DecidesSo, as_it_comes, as_it_leaves, Decided}
+use Rattle.rinda_laws.specs.Starting.{IsStart}
+use Rattle.rinda_laws.proofs.Holding.{settle_keeps}
+use Rattle.rinda_laws.proofs.Deciding.{is_expired_out, was_expired, Expires, submits, answered, has_ended, why_expired, expired_case}
+use Rattle.rinda_rules.proofs.Sounding.{sound-advanced, sound-found_by, sound-outcome}
+use Rattle.rinda_laws.proofs.Turning.{sound_before, sound_Step, LegalFrom-front, last_step}
 
 -- the row with that id was answered Expired
 
@@ -102,7 +111,7 @@ same_state : (f : Request → Request) → ((r : Request) → (f r).id ≡ r.id)
 same_state f ids states = record { ids = ids; states = λ r e. ap was_expired (sym (states r)) ∙ e }
 
 reads : (v : Tuple) → Answerless (read_by v)
-reads v = record { ids = λ r. ids r (is_read r.kind && (is_waiting r && fits r.pattern v)); states = λ r. states r (is_read r.kind && (is_waiting r && fits r.pattern v)) }
+reads v = record { ids = λ r. ids r (is_read r.kind && (is_waiting r && matches r.pattern v)); states = λ r. states r (is_read r.kind && (is_waiting r && matches r.pattern v)) }
   where
     ids : (r : Request) (b : Bool) → (cond {A = Request} b (in_state (state.Answered (out.Answer (value_of v))) r) r).id ≡ r.id
     ids r true = refl
@@ -111,6 +120,19 @@ reads v = record { ids = λ r. ids r (is_read r.kind && (is_waiting r && fits r.
     states : (r : Request) (b : Bool) → was_expired (cond {A = Request} b (in_state (state.Answered (out.Answer (value_of v))) r) r).state ≡ true → was_expired r.state ≡ true
     states r true e = cc
     states r false e = e
+
+shuts : Answerless shut_request
+shuts = record { ids = λ r. ids r (is_reserved r.state) (is_parked r.state); states = λ r. states r (is_reserved r.state) (is_parked r.state) }
+  where
+    ids : (r : Request) (a b : Bool) → (cond {A = Request} a (record r { marked = true }) (cond {A = Request} b (in_state (state.Answered out.Canceled) r) r)).id ≡ r.id
+    ids r true b = refl
+    ids r false true = refl
+    ids r false false = refl
+
+    states : (r : Request) (a b : Bool) → was_expired (cond {A = Request} a (record r { marked = true }) (cond {A = Request} b (in_state (state.Answered out.Canceled) r) r)).state ≡ true → was_expired r.state ≡ true
+    states r true b e = e
+    states r false true e = cc
+    states r false false e = e
 
 module _ (id : ℕ) where
   -- it was answered so before, where it is so in that space
@@ -289,17 +311,26 @@ module _ (id : ℕ) where
   value_back s IsRecycled e = e
   value_back s IsUnknown e = e
 
-  write_back : (s : Plain) (v : Tuple) (lease : Lease) → Before s (write s v lease).after
-  write_back s v lease e = by_test (is_over s.clock (deadline lease.life s.clock)) e
+  -- where the space isn't shut
+  unless_back : (b : Bool) (s : Plain) (o : Outcome) → Before s o.after → Before s (cond {A = Outcome} b (answers s out.Shut) o).after
+  unless_back true s o h e = e
+  unless_back false s o h e = h e
+
+  write_tuple_back : (s : Plain) (v : Tuple) (lease : Lease) → Before s (write_tuple s (new_tuple s v lease))
+  write_tuple_back s v lease e = by_test (is_over s.clock (deadline lease.life s.clock)) e
     where
       by_test : (b : Bool) → Before s (cond {A = Plain} b (written_over (new_tuple s v lease) (minted s)) (written (new_tuple s v lease) (minted s)))
       by_test true e = map_back id (read_by v) s.requests (reads v) e
       by_test false e = e
 
+  shut_back : (s : Plain) (b : Bool) → Before s (cond {A = Outcome} b (answers s out.NotYet) (answers (shut_down s) out.Plain)).after
+  shut_back s true e = e
+  shut_back s false e = map_back id shut_request s.requests shuts e
+
   -- no event's own case answers a request Expired that stays
   outcome_back : (s : Plain) (caller : ℕ) (event : Event) (choice : Option Entry) → Before s (outcome s caller event choice).after
-  outcome_back s caller (Write v lease) choice e = write_back s v lease e
-  outcome_back s caller (Reserve kd pattern lease) choice e = push_back id (new_request s caller kd pattern lease) s.requests refl e
+  outcome_back s caller (Write v lease) choice e = unless_back s.shut s (answers (write_tuple s (new_tuple s v lease)) (out.Entry s.next)) (write_tuple_back s v lease) e
+  outcome_back s caller (Reserve kd pattern lease) choice e = unless_back s.shut s (answers (with_new_request s caller kd pattern lease) (out.Reserved s.next)) (push_back id (new_request s caller kd pattern lease) s.requests refl) e
   outcome_back s caller (Submit i) choice e = on_own_back s caller (λ r. submit s r choice r.state) (found s i) (λ r. submit_back s r choice r.state) e
   outcome_back s caller (Collect i) choice e = on_own_back s caller (λ r. collect s r r.state) (found s i) (λ r. collect_back s r r.state) e
   outcome_back s caller (Settle i ok) choice e = on_own_back s caller (λ r. settle s r ok r.state) (found s i) (λ r. settle_back s r ok r.state) e
@@ -309,11 +340,12 @@ module _ (id : ℕ) where
   outcome_back s caller (Look i) choice e = look_back s (found s i) e
   outcome_back s caller (Value i) choice e = value_back s (found s i) e
   outcome_back s caller (ReadAll pattern) choice e = e
-  outcome_back s caller (Notify x pattern lease) choice e = e
+  outcome_back s caller (Notify x pattern lease) choice e = unless_back s.shut s (answers (with_new_notifier s x pattern lease) (out.Notifier s.next)) (λ e. e) e
   outcome_back s caller (Pop i) choice e = pop_back s (found s i) e
   outcome_back s caller NextAsk choice e = ask_back s (least (askings s)) e
   outcome_back s caller (Asked i life) choice e = told_back s (deadline life s.clock) (found s i) e
   outcome_back s caller Tick choice e = e
+  outcome_back s caller Shut choice e = shut_back s s.shut e
 
   -- Aging answers so those that run out.
 
@@ -337,8 +369,8 @@ module _ (id : ℕ) where
       two : (a b : Bool) → (a && b) ≡ true → b ≡ true
       two a b e = grind arith
 
-  aged_back : (s : Plain) → expired_at id (aged s).requests ≡ true → Aged s
-  aged_back s e = by_row (request_at s id) refl
+  at_once_back : (s : Plain) → expired_at id (aged_at_once s).requests ≡ true → Aged s
+  at_once_back s e = by_row (request_at s id) refl
     where
       here : (r : Request) → request_at s id ≡ Some r → was_expired r.state ≡ true → Aged s
       here r there x = already (ap expired_row there ∙ x)
@@ -355,30 +387,33 @@ module _ (id : ℕ) where
           contra e = cc
       by_row (Some r) there = by_tests r (is_due_request s.clock r) (is_none r.renewer) there refl refl (sym (ap expired_row (row_map (λ (r : Request). r.id) id (aged_request s.clock) s.requests r (aged_id s.clock) there)) ∙ e)
 
+  aged_back : (s : Plain) → Sound s → expired_at id (aged s).requests ≡ true → Aged s
+  aged_back s sound e = at_once_back s (subst (λ (p : Plain). expired_at id p.requests ≡ true) (aging_at_once s sound) e)
+
   -- A turn.
 
   data Told (s : Plain) (turn : Turn) : Type 0 where
     so_before : expired_at id s.requests ≡ true → Told s turn
     so_now : DecidesSo id s turn → Told s turn
 
-  case_back : (s : Plain) (caller : ℕ) (event : Event) (r : Option Request) (o : Out) (picks : List Pick) (s' : Plain) → Case s caller event r o picks s' → expired_at id s'.requests ≡ true → Aged (outcome s caller event (choice_of s r picks)).after
-  case_back s caller event None o picks s' case e = aged_back _ (serve_back _ picks s' case.1 e)
-  case_back s caller event (Some r) o [] s' case e = absurd case
-  case_back s caller event (Some r) o (pick ∷ picks) s' case e = aged_back _ (serve_back _ picks s' case.2 e)
+  case_back : (s : Plain) (caller : ℕ) (event : Event) (r : Option Request) (o : Out) (picks : List Pick) (s' : Plain) → chooser s caller event ≡ r → Case s caller event r o picks s' → Sound s → expired_at id s'.requests ≡ true → Aged (outcome s caller event (choice_of s r picks)).after
+  case_back s caller event None o picks s' chooses case sound e = aged_back _ (sound-outcome s caller event None (chosen_none s event) sound) (serve_back _ picks s' case.1 e)
+  case_back s caller event (Some r) o [] s' chooses case sound e = absurd case
+  case_back s caller event (Some r) o (pick ∷ picks) s' chooses case sound e = aged_back _ (sound-outcome s caller event (tuple_at s pick.tuple) (chosen_match s caller event r pick chooses case.0) sound) (serve_back _ picks s' case.2 e)
 
   -- where it is so as the event finds the space
-  found_back : (s : Plain) (turn : Turn) → expired_at id (found_by s turn.at).requests ≡ true → Told s turn
-  found_back s turn e = by_age (aged_back (advanced s turn.at) e)
+  found_back : (s : Plain) (turn : Turn) → Sound s → expired_at id (found_by s turn.at).requests ≡ true → Told s turn
+  found_back s turn sound e = by_age (aged_back (advanced s turn.at) (sound-advanced s turn.at sound) e)
     where
       by_age : Aged (advanced s turn.at) → Told s turn
       by_age (already x) = so_before x
       by_age (now ran) = so_now (as_it_comes ran)
 
-  step_back : (s : Plain) (turn : Turn) (s' : Plain) → Step s turn.caller turn.at turn.event turn.out turn.picks s' → expired_at id s'.requests ≡ true → Told s turn
-  step_back s turn s' step e = by_age (case_back (found_by s turn.at) turn.caller turn.event (chooser (found_by s turn.at) turn.caller turn.event) turn.out turn.picks s' step e)
+  step_back : (s : Plain) (turn : Turn) (s' : Plain) → Step s turn.caller turn.at turn.event turn.out turn.picks s' → Sound s → expired_at id s'.requests ≡ true → Told s turn
+  step_back s turn s' step sound e = by_age (case_back (found_by s turn.at) turn.caller turn.event (chooser (found_by s turn.at) turn.caller turn.event) turn.out turn.picks s' refl step (sound-found_by s turn.at sound) e)
     where
       by_age : Aged (left_by s turn) → Told s turn
-      by_age (already x) = found_back s turn (outcome_back (found_by s turn.at) turn.caller turn.event (choice_of (found_by s turn.at) (chooser (found_by s turn.at) turn.caller turn.event) turn.picks) x)
+      by_age (already x) = found_back s turn sound (outcome_back (found_by s turn.at) turn.caller turn.event (choice_of (found_by s turn.at) (chooser (found_by s turn.at) turn.caller turn.event) turn.picks) x)
       by_age (now ran) = so_now (as_it_leaves ran)
 
   -- Histories.
@@ -394,27 +429,27 @@ module _ (id : ℕ) where
     at_first : expired_at id s.requests ≡ true → ToldFrom s h
     by_turn : DecidedFrom s h → ToldFrom s h
 
-  told_from : (s : Plain) (h : List Turn) → LegalFrom s h → expired_at id (plain_from s h).requests ≡ true → ToldFrom s h
-  told_from s [] legal e = at_first e
-  told_from s (t ∷ ts) legal e = by_rest (told_from (after s t) ts legal.1 e)
+  told_from : (s : Plain) (h : List Turn) → LegalFrom s h → Sound s → expired_at id (plain_from s h).requests ≡ true → ToldFrom s h
+  told_from s [] legal sound e = at_first e
+  told_from s (t ∷ ts) legal sound e = by_rest (told_from (after s t) ts legal.1 (sound_Step s t (after s t) legal.0.step sound) e)
     where
       by_step : Told s t → ToldFrom s (t ∷ ts)
       by_step (so_before x) = at_first x
       by_step (so_now d) = by_turn (record { front = []; turn = t; later = ts; parts = refl; decides = d })
 
       by_rest : ToldFrom (after s t) ts → ToldFrom s (t ∷ ts)
-      by_rest (at_first x) = by_step (step_back s t (after s t) legal.0.step x)
+      by_rest (at_first x) = by_step (step_back s t (after s t) legal.0.step sound x)
       by_rest (by_turn d) = by_turn (record { front = t ∷ d.front; turn = d.turn; later = d.later; parts = ap (λ (l : List Turn). t ∷ l) d.parts; decides = d.decides })
 
 assoc : (xs ys zs : List Turn) → (xs ++ ys) ++ zs ≡ xs ++ (ys ++ zs)
 assoc [] ys zs = refl
 assoc (x ∷ xs) ys zs = ap (λ (l : List Turn). x ∷ l) (assoc xs ys zs)
 
-pub expired_is_decided : (h : List Turn) (turn : Turn) → Legal (h ++ turn ∷ []) → (id : ℕ) (r : Request) → request_at (found_by (plain h) turn.at) id ≡ Some r → was_expired r.state ≡ true → Decided id (h ++ turn ∷ [])
-expired_is_decided h turn legal id r there e = by_turn_itself (found_back id (plain h) turn (ap expired_row there ∙ e))
+decided_so : (start : Plain) (h : List Turn) (turn : Turn) → IsStart start → LegalFrom start (h ++ turn ∷ []) → (id : ℕ) (r : Request) → request_at (found_by (plain_from start h) turn.at) id ≡ Some r → was_expired r.state ≡ true → Decided start id (h ++ turn ∷ [])
+decided_so start h turn from legal id r there e = by_turn_itself (found_back id (plain_from start h) turn (sound_before start h (turn ∷ []) from legal) (ap expired_row there ∙ e))
   where
-    by_history : ToldFrom id opening h → Decided id (h ++ turn ∷ [])
-    by_history (at_first x) = absurd (contra x)
+    by_history : ToldFrom id start h → Decided start id (h ++ turn ∷ [])
+    by_history (at_first x) = absurd (contra (subst (λ (rs : List Request). expired_at id rs ≡ true) from.alone x))
       where
         contra : false ≡ true → ⊥
         contra e = cc
@@ -426,6 +461,16 @@ expired_is_decided h turn legal id r there e = by_turn_itself (found_back id (pl
       decides = d.decides;
     }
 
-    by_turn_itself : Told id (plain h) turn → Decided id (h ++ turn ∷ [])
-    by_turn_itself (so_before x) = by_history (told_from id opening h (LegalFrom-front opening h (turn ∷ []) legal) x)
+    by_turn_itself : Told id (plain_from start h) turn → Decided start id (h ++ turn ∷ [])
+    by_turn_itself (so_before x) = by_history (told_from id start h (LegalFrom-front start h (turn ∷ []) legal) from.sound x)
     by_turn_itself (so_now d) = record { before = h; turn = turn; later = []; parts = refl; decides = d }
+
+pub expired_is_decided : (start : Plain) (h : List Turn) (turn : Turn) → IsStart start → LegalFrom start (h ++ turn ∷ []) → turn.out ≡ out.Expired → ExpiredBecause start h turn
+expired_is_decided start h turn from legal e =
+    by_why (why_expired (found_by (plain_from start h) turn.at) turn.event
+    (expired_case (found_by (plain_from start h) turn.at) turn.caller turn.event (chooser (found_by (plain_from start h) turn.at) turn.caller turn.event) turn.out turn.picks (after (plain_from start h) turn) refl (last_step start h turn [] legal) (ap is_expired_out e)))
+  where
+    by_why : Expires (found_by (plain_from start h) turn.at) turn.event → ExpiredBecause start h turn
+    by_why (submits id is late_so) = late id is late_so
+    by_why (answered id r asks there x) = decided id asks (decided_so start h turn from legal id r there x)
+    by_why (has_ended id l asks is) = ended id l asks is

@@ -1,5 +1,5 @@
 -- What a notifier hears is what was raised since its registration.
-use Rattle.std.proofs.Common.{◌≡◌, ◌≢◌, ℕ, ◌+◌, ◌<◌, Bool, true, false, cond, ◌&&◌, ltb, List, [], ◌∷◌, ◌++◌, map, Option, Some, None, refl, sym, ◌∙◌, ap, subst, arith}
+use Rattle.std.proofs.Common.{◌≡◌, ◌≢◌, ℕ, ◌+◌, ◌<◌, ◌≤◌, Bool, true, false, cond, ◌&&◌, ltb, List, [], ◌∷◌, ◌++◌, map, Option, Some, None, refl, sym, ◌∙◌, ap, subst, arith, length-append}
 use Rattle.std.specs.Prelude.{◌==◌, filter, drop, length, if◌then◌else◌}
 use Rattle.std.specs.List.{list_all}
 use Rattle.std.proofs.lemmas.Bool.Decides.{nat_tests}
@@ -8,31 +8,20 @@ use Rattle.rinda_tuple.specs.declared.tuple.Template.{Template}
 use Rattle.rinda_tuple.specs.declared.lease.Lease.{Lease}
 use Rattle.rinda_rules.specs.declared.object.Last.TheVariants as last
 use Rattle.rinda_rules.specs.declared.event.Event.{Event}
-use Rattle.rinda_rules.specs.declared.event.Event.TheVariants.{Notify, Tick}
+use Rattle.rinda_rules.specs.declared.event.Event.TheVariants.{Notify}
 use Rattle.rinda_rules.specs.declared.out.Out.{Out}
 use Rattle.rinda_rules.specs.declared.out.Out.TheVariants as out
-use Rattle.rinda_rules.specs.declared.turn.Pick.{Pick}
-use Rattle.rinda_rules.specs.declared.turn.Turn.{Turn}
 use Rattle.rinda_rules.specs.declared.plain.Entry.{Entry}
 use Rattle.rinda_rules.specs.declared.plain.Notifier.{Notifier}
-use Rattle.rinda_rules.specs.declared.plain.Hearing.{Hearing}
-use Rattle.rinda_rules.specs.declared.plain.Hearing.TheVariants as hearing
 use Rattle.rinda_rules.specs.declared.plain.Raised.{Raised}
 use Rattle.rinda_rules.specs.declared.plain.Happening.TheVariants as happening
 use Rattle.rinda_rules.specs.Rows.{row_of, changed, without}
-use Rattle.rinda_rules.specs.Space.{Plain, opening, notifier_at, tuple_at, is_running, hears}
-use Rattle.rinda_rules.specs.Queue.{until_end}
-use Rattle.rinda_rules.specs.Phases.{aged_notifier, deleted, expires, tuple_ended, happening_of}
-use Rattle.rinda_rules.specs.Cases.{new_notifier, settle_tuple, with_tuple, outcome}
-use Rattle.rinda_rules.specs.Steps.{Case, Step, found_by}
-use Rattle.rinda_rules.specs.Settled.{Numbered}
-use Rattle.rinda_rules.specs.Fixed.{after}
-use Rattle.rinda_rules.specs.Legal.{plain_from, plain, LegalFrom, Legal}
-use Rattle.rinda_rules.proofs.Keeping.{Keeps, KeepsNotifier, step_kept, serve_kept, found_kept}
-use Rattle.rinda_rules.proofs.Sounding.{Sound, sound_keeps, sound_opening}
-use Rattle.rinda_rules.proofs.Settling.{Both, reached}
-use Rattle.rinda_laws.specs.Hears.{HearsSince}
-use Rattle.rinda_laws.proofs.Staying.{plain_from-append, LegalFrom-front, LegalFrom-back}
+use Rattle.rinda_rules.specs.Space.{Plain, notifier_at, tuple_at}
+use Rattle.rinda_rules.specs.Phases.{tuple_ended, happening_of, with_tuple}
+use Rattle.rinda_rules.specs.AtOnce.{aged_notifier, deleted, expires}
+use Rattle.rinda_rules.specs.Cases.{Outcome, answers, new_notifier, settle_tuple, shut_notifier, outcome}
+use Rattle.rinda_rules.specs.Sound.{Sound}
+use Rattle.rinda_rules.proofs.Keeping.{Keeps, KeepsNotifier, with_new_notifier}
 
 -- the row that a changed one was
 pub unmap : (id : ℕ) (f : Notifier → Notifier) (ns : List Notifier) (n : Notifier) → ((n : Notifier) → (f n).id ≡ n.id) → row_of (λ n. n.id) id (map f ns) ≡ Some n → (m : Notifier) × (row_of (λ n. n.id) id ns ≡ Some m) × (n ≡ f m)
@@ -117,13 +106,32 @@ pub record Same (event : Tree) (pattern : Template) (since : ℕ) (n : Notifier)
   pub pattern_is : n.pattern ≡ pattern
   pub since_is : n.since ≡ since
 
-module _ (id : ℕ) (event : Tree) (pattern : Template) (base : List Raised) where
+pub shut_id : (until : ℕ) (n : Notifier) → (shut_notifier until n).id ≡ n.id
+shut_id until n = grind (arith, nat_tests)
+
+shut_event : (until : ℕ) (n : Notifier) → (shut_notifier until n).event ≡ n.event
+shut_event until n = grind (arith, nat_tests)
+
+shut_pattern : (until : ℕ) (n : Notifier) → (shut_notifier until n).pattern ≡ n.pattern
+shut_pattern until n = grind (arith, nat_tests)
+
+shut_since : (until : ℕ) (n : Notifier) → (shut_notifier until n).since ≡ n.since
+shut_since until n = grind (arith, nat_tests)
+
+longer : (xs ys : List Raised) → length xs ≤ length (xs ++ ys)
+longer xs ys = omega (arith, length-append xs ys)
+
+pub dropped : (xs ys : List Raised) → drop (length xs) (xs ++ ys) ≡ ys
+dropped [] ys = refl
+dropped (x ∷ xs) ys = dropped xs ys
+
+module _ (id : ℕ) (event : Tree) (pattern : Template) (from : ℕ) (base : List Raised) where
   -- the lists of a space that this is about
   pub record Since (next : ℕ) (ns : List Notifier) (es : List Raised) : Type 0 where
     pub grown : List Raised
     pub events : es ≡ base ++ grown
     pub minted : id < next
-    pub rows : (n : Notifier) → row_of (λ n. n.id) id ns ≡ Some n → Same event pattern (length base) n
+    pub rows : (n : Notifier) → row_of (λ n. n.id) id ns ≡ Some n → Same event pattern from n
 
   abbrev pub SinceOf : Plain → Type 0
   SinceOf s = Since s.next s.notifiers s.events
@@ -134,12 +142,12 @@ module _ (id : ℕ) (event : Tree) (pattern : Template) (base : List Raised) whe
   mints : (next : ℕ) (ns : List Notifier) (es : List Raised) → Since next ns es → Since (next + 1) ns es
   mints next ns es h = record { grown = h.grown; events = h.events; minted = omega (arith, h.minted); rows = h.rows }
 
-  mapped : (next : ℕ) (f : Notifier → Notifier) (ns : List Notifier) (es : List Raised) → ((n : Notifier) → (f n).id ≡ n.id) → ((n : Notifier) → Same event pattern (length base) n → Same event pattern (length base) (f n)) → Since next ns es → Since next (map f ns) es
+  mapped : (next : ℕ) (f : Notifier → Notifier) (ns : List Notifier) (es : List Raised) → ((n : Notifier) → (f n).id ≡ n.id) → ((n : Notifier) → Same event pattern from n → Same event pattern from (f n)) → Since next ns es → Since next (map f ns) es
   mapped next f ns es ids same h = record {
     grown = h.grown;
     events = h.events;
     minted = h.minted;
-    rows = λ n e. let was = unmap id f ns n ids e in subst (λ (m : Notifier). Same event pattern (length base) m) (sym was.2) (same was.0 (h.rows was.0 was.1));
+    rows = λ n e. let was = unmap id f ns n ids e in subst (λ (m : Notifier). Same event pattern from m) (sym was.2) (same was.0 (h.rows was.0 was.1));
   }
 
   one_changed : (next of : ℕ) (f : Notifier → Notifier) (ns : List Notifier) (es : List Raised) → KeepsNotifier f → Since next ns es → Since next (changed (λ n. n.id) of f ns) es
@@ -149,7 +157,7 @@ module _ (id : ℕ) (event : Tree) (pattern : Template) (base : List Raised) whe
       ids n true = k.id n
       ids n false = refl
 
-      sames : (n : Notifier) (b : Bool) → Same event pattern (length base) n → Same event pattern (length base) (cond {A = Notifier} b (f n) n)
+      sames : (n : Notifier) (b : Bool) → Same event pattern from n → Same event pattern from (cond {A = Notifier} b (f n) n)
       sames n true same = record { event_is = k.event n ∙ same.event_is; pattern_is = k.pattern n ∙ same.pattern_is; since_is = k.since n ∙ same.since_is }
       sames n false same = same
 
@@ -159,19 +167,19 @@ module _ (id : ℕ) (event : Tree) (pattern : Template) (base : List Raised) whe
   pub since_keeps : (caller : ℕ) (what : Event) → Keeps caller what SinceOf
   since_keeps caller what = record {
     advances = λ s at h. h;
-    ages = λ s h. grows s.next (map (aged_notifier s) s.notifiers) s.events (map deleted (filter (expires s.clock) s.tuples))
+    ages = λ s sound h. grows s.next (map (aged_notifier s) s.notifiers) s.events (map deleted (filter (expires s.clock) s.tuples))
         (mapped s.next (aged_notifier s) s.notifiers s.events (aged_id s) (λ n same. record { event_is = aged_event s n ∙ same.event_is; pattern_is = aged_pattern s n ∙ same.pattern_is; since_is = aged_since s n ∙ same.since_is }) h);
-    writes = λ s value lease h. mints s.next s.notifiers _ (grows s.next s.notifiers s.events (record { what = happening.Write; id = s.next; tuple = value } ∷ []) h);
-    writes_over = λ s value lease h. mints s.next s.notifiers _ (grows s.next s.notifiers (s.events ++ record { what = happening.Write; id = s.next; tuple = value } ∷ []) (record { what = happening.Delete; id = s.next; tuple = value } ∷ []) (grows s.next s.notifiers s.events (record { what = happening.Write; id = s.next; tuple = value } ∷ []) h));
-    reserves = λ s k p lease h. mints s.next s.notifiers s.events h;
-    notifies = λ s e p lease h. record { grown = h.grown; events = h.events; minted = omega (arith, h.minted); rows = λ n there. h.rows n (unpush id (new_notifier s e p lease) s.notifiers n (above s.next h.minted) there) };
+    writes = λ s value lease unshut h. mints s.next s.notifiers _ (grows s.next s.notifiers s.events (record { what = happening.Write; id = s.next; tuple = value } ∷ []) h);
+    writes_over = λ s value lease unshut h. mints s.next s.notifiers _ (grows s.next s.notifiers (s.events ++ record { what = happening.Write; id = s.next; tuple = value } ∷ []) (record { what = happening.Delete; id = s.next; tuple = value } ∷ []) (grows s.next s.notifiers s.events (record { what = happening.Write; id = s.next; tuple = value } ∷ []) h));
+    reserves = λ s k p lease unshut h. mints s.next s.notifiers s.events h;
+    notifies = λ s e p lease unshut h. record { grown = h.grown; events = h.events; minted = omega (arith, h.minted); rows = λ n there. h.rows n (unpush id (new_notifier s e p lease) s.notifiers n (above s.next h.minted) there) };
     tuple_leaves = λ l t s here isfree h. grows s.next s.notifiers s.events (record { what = happening_of l; id = t.id; tuple = t.value } ∷ []) h;
     tuple_leases = λ i f s k h. h;
     tuple_marks = λ t holder s here isheld h. h;
     request_leases = λ r f s there k may h. h;
     request_asks = λ i s h. h;
     request_marks = λ r s there is e h. h;
-    request_parks = λ r s there res mine is h. h;
+    request_parks = λ r s there res unmarked mine is h. h;
     request_answers = λ r o s there why h. h;
     request_ends = λ l r s there none mine of h. h;
     grants = λ r t s there here isfree why h. h;
@@ -182,90 +190,67 @@ module _ (id : ℕ) (event : Tree) (pattern : Template) (base : List Raised) whe
         record { grown = g.grown; events = new.1 ∙ g.events; minted = subst (λ (n : ℕ). id < n) (sym same.1) g.minted; rows = λ n there. g.rows n (ap (row_of (λ n. n.id) id) (sym same.0) ∙ there) };
     notifier_changes = λ i f s k h. one_changed s.next i f s.notifiers s.events k h;
     notifier_ends = λ l n s h. record { grown = h.grown; events = h.events; minted = h.minted; rows = λ m there. h.rows m (unwithout id n.id s.notifiers m there) };
+    shuts = λ s unshut is h. mapped s.next (shut_notifier (length s.events)) s.notifiers s.events (shut_id (length s.events)) (λ n same. record { event_is = shut_event (length s.events) n ∙ same.event_is; pattern_is = shut_pattern (length s.events) n ∙ same.pattern_is; since_is = shut_since (length s.events) n ∙ same.since_is }) h;
   }
 
-  pub since_from : (s : Plain) (h : List Turn) → LegalFrom s h → SinceOf s → SinceOf (plain_from s h)
-  since_from s [] legal g = g
-  since_from s (t ∷ ts) legal g = since_from (after s t) ts legal.1 (step_kept t.caller t.event SinceOf (since_keeps t.caller t.event) s t.at t.out t.picks (after s t) legal.0.step g)
+  -- all that was raised before is raised
+  pub long_of : (s : Plain) → SinceOf s → length base ≤ length s.events
+  long_of s h = subst (λ (es : List Raised). length base ≤ length es) (sym h.events) (longer base h.grown)
+
+  pub grown_is : (s : Plain) (h : SinceOf s) → drop (length base) s.events ≡ h.grown
+  grown_is s h = ap (drop (length base)) h.events ∙ dropped base h.grown
 
 -- The registration.
 
-pub row_push : (n : ℕ) (x : Notifier) (ns : List Notifier) → list_all (λ y. ltb y.id n) ns ≡ true → x.id ≡ n → row_of (λ y. y.id) n (ns ++ x ∷ []) ≡ Some x
+row_push : (n : ℕ) (x : Notifier) (ns : List Notifier) → list_all (λ y. ltb y.id n) ns ≡ true → x.id ≡ n → row_of (λ y. y.id) n (ns ++ x ∷ []) ≡ Some x
 row_push n x [] below e = grind (arith, nat_tests)
 row_push n x (y ∷ ys) below e = grind (arith, nat_tests, row_push n x ys)
 
-pub two : (a b : Bool) → (a && b) ≡ true → b ≡ true
+two : (a b : Bool) → (a && b) ≡ true → b ≡ true
 two a b e = grind arith
 
-abbrev pub notifier_id : Out → ℕ
+abbrev notifier_id : Out → ℕ
 notifier_id (out.Notifier i) = i
 notifier_id _ = 0
+
+-- the space with the new notifier, where it isn't shut
+abbrev pub fresh : Plain → Tree → Template → Lease → Outcome
+fresh s event pattern lease = answers (with_new_notifier s event pattern lease) (out.Notifier s.next)
+
+notifies_unshut : (b : Bool) (s : Plain) (o : Outcome) (id : ℕ) → (cond {A = Outcome} b (answers s out.Shut) o).out ≡ out.Notifier id → b ≡ false
+notifies_unshut true s o id e = cc
+notifies_unshut false s o id e = refl
+
+-- a Notify that is answered so
+pub record Registers (s : Plain) (event : Tree) (pattern : Template) (lease : Lease) (id caller : ℕ) : Type 0 where
+  pub next_is : s.next ≡ id
+  pub after_is : (outcome s caller (Notify event pattern lease) None).after ≡ with_new_notifier s event pattern lease
+
+pub registers : (s : Plain) (event : Tree) (pattern : Template) (lease : Lease) (id caller : ℕ) → (outcome s caller (Notify event pattern lease) None).out ≡ out.Notifier id → Registers s event pattern lease id caller
+registers s event pattern lease id caller said = record {
+  next_is = ap notifier_id (subst (λ (b : Bool). (cond {A = Outcome} b (answers s out.Shut) (fresh s event pattern lease)).out ≡ out.Notifier id) unshut said);
+  after_is = ap (λ (b : Bool). (cond {A = Outcome} b (answers s out.Shut) (fresh s event pattern lease)).after) unshut;
+}
+  where
+    unshut : s.shut ≡ false
+    unshut = notifies_unshut s.shut s (fresh s event pattern lease) id said
+
+-- the row of a new notifier
+pub new_row : (s : Plain) (event : Tree) (pattern : Template) (lease : Lease) (id : ℕ) (m : Notifier) → Sound s → s.next ≡ id → notifier_at (with_new_notifier s event pattern lease) id ≡ Some m → new_notifier s event pattern lease ≡ m
+new_row s event pattern lease id m sound next_is there =
+    some_same (sym (row_push id (new_notifier s event pattern lease) s.notifiers (subst (λ (i : ℕ). list_all (λ y. ltb y.id i) s.notifiers ≡ true) next_is (two _ _ sound.numbered.notifiers)) next_is) ∙ there)
+  where
+    some_same : {x y : Notifier} → Some x ≡ Some y → x ≡ y
+    some_same e = grind arith
 
 no_more : (es : List Raised) → es ≡ es ++ []
 no_more [] = refl
 no_more (e ∷ es) = ap (λ (l : List Raised). e ∷ l) (no_more es)
 
-pub notify_case : (caller id : ℕ) (s : Plain) (event : Tree) (pattern : Template) (lease : Lease) (o : Out) (picks : List Pick) (s' : Plain) → Numbered s → Case s caller (Notify event pattern lease) None o picks s' → o ≡ out.Notifier id → SinceOf id event pattern s.events s'
-notify_case caller id s event pattern lease o picks s' n case e =
-    serve_kept caller Tick (SinceOf id event pattern s.events) (since_keeps id event pattern s.events caller Tick) _ picks s' case.1
-    ((since_keeps id event pattern s.events caller Tick).ages (outcome s caller (Notify event pattern lease) None).after (record {
-      grown = [];
-      events = no_more s.events;
-      minted = omega (arith, next_is);
-      rows = λ m there. the_new m (some_same (sym (row_push id (new_notifier s event pattern lease) s.notifiers (subst (λ (i : ℕ). list_all (λ y. ltb y.id i) s.notifiers ≡ true) next_is (two _ _ n.notifiers)) next_is) ∙ there));
-    }))
-  where
-    next_is : s.next ≡ id
-    next_is = ap notifier_id (sym case.0 ∙ e)
-
-    some_same : {x y : Notifier} → Some x ≡ Some y → x ≡ y
-    some_same e = grind arith
-
-    the_new : (m : Notifier) → new_notifier s event pattern lease ≡ m → Same event pattern (length s.events) m
-    the_new m is = subst (λ (m : Notifier). Same event pattern (length s.events) m) is (record { event_is = refl; pattern_is = refl; since_is = refl })
-
--- The queue.
-
-dropped : (xs ys : List Raised) → drop (length xs) (xs ++ ys) ≡ ys
-dropped [] ys = refl
-dropped (x ∷ xs) ys = dropped xs ys
-
-until_running : (st : Hearing) (es : List Raised) → is_running st ≡ true → until_end st es ≡ es
-until_running hearing.Running es e = refl
-until_running (hearing.Closed l u) es e = cc
-
-queue_since : (n : Notifier) (event : Tree) (pattern : Template) (popped : ℕ) (base grown es : List Raised) → es ≡ base ++ grown → Same event pattern (length base) n → n.popped ≡ popped → is_running n.state ≡ true → HearsSince event pattern popped es grown n
-queue_since n event pattern popped base grown es e same count runs = record {
-  event_is = same.event_is;
-  pattern_is = same.pattern_is;
-  queue_is = ap (λ (l : List Raised). drop n.popped (filter (hears n) (drop n.since l))) (until_running n.state es runs ∙ e)
-      ∙ ap (λ (k : ℕ). drop n.popped (filter (hears n) (drop k (base ++ grown)))) same.since_is
-      ∙ ap (λ (l : List Raised). drop n.popped (filter (hears n) l)) (dropped base grown)
-      ∙ ap (λ (k : ℕ). drop k (filter (hears n) grown)) count;
+pub new_since : (s : Plain) (event : Tree) (pattern : Template) (lease : Lease) (id : ℕ) → Sound s → s.next ≡ id → SinceOf id event pattern (length s.events) s.events (with_new_notifier s event pattern lease)
+new_since s event pattern lease id sound next_is = record {
+  grown = [];
+  events = no_more s.events;
+  minted = omega (arith, next_is);
+  rows = λ m there. subst (λ (m : Notifier). Same event pattern (length s.events) m) (new_row s event pattern lease id m sound next_is there) (record { event_is = refl; pattern_is = refl; since_is = refl });
 }
-
-module _ (before later : List Turn) (turn : Turn) (event : Tree) (pattern : Template) (lease : Lease) (id : ℕ) (legal : Legal (before ++ turn ∷ later)) (is : turn.event ≡ Notify event pattern lease) (e : turn.out ≡ out.Notifier id) where
-  pub rest : LegalFrom (plain before) (turn ∷ later)
-  rest = LegalFrom-back opening before (turn ∷ later) legal
-
-  both : Both (plain before)
-  both = reached opening before sound_opening.numbered (record { nobody = refl; not_due = refl; kept = refl }) (LegalFrom-front opening before (turn ∷ later) legal)
-
-  pub sound : Sound (found_by (plain before) turn.at)
-  sound = found_kept turn.caller Tick Sound (sound_keeps turn.caller Tick) (plain before) turn.at (record { numbered = both.numbered; kept = both.settled.kept })
-
-  pub notifies : Step (plain before) turn.caller turn.at (Notify event pattern lease) turn.out turn.picks (after (plain before) turn)
-  notifies = subst (λ (x : Event). Step (plain before) turn.caller turn.at x turn.out turn.picks (after (plain before) turn)) is rest.0.step
-
-  -- what is so once it is registered
-  pub registered : SinceOf id event pattern (found_by (plain before) turn.at).events (after (plain before) turn)
-  registered = notify_case turn.caller id (found_by (plain before) turn.at) event pattern lease turn.out turn.picks (after (plain before) turn) sound.numbered notifies e
-
-  all : SinceOf id event pattern (found_by (plain before) turn.at).events (plain (before ++ turn ∷ later))
-  all = subst (λ (p : Plain). SinceOf id event pattern (found_by (plain before) turn.at).events p) (sym (plain_from-append opening before (turn ∷ later)))
-      (since_from id event pattern (found_by (plain before) turn.at).events (after (plain before) turn) later rest.1 registered)
-
-  pub queue_exact : (n : Notifier) (popped : ℕ) → n.popped ≡ popped → notifier_at (plain (before ++ turn ∷ later)) id ≡ Some n → is_running n.state ≡ true →
-      (since : List Raised) × ((plain (before ++ turn ∷ later)).events ≡ (found_by (plain before) turn.at).events ++ since) × HearsSince event pattern popped (plain (before ++ turn ∷ later)).events since n
-  queue_exact n popped count there runs =
-      (all.grown, all.events, queue_since n event pattern popped (found_by (plain before) turn.at).events all.grown (plain (before ++ turn ∷ later)).events all.events (all.rows n there) count runs)

@@ -10,28 +10,17 @@ use Rattle.rinda_rules.specs.declared.row.RequestState.{RequestState}
 use Rattle.rinda_rules.specs.declared.row.RequestState.TheVariants as state
 use Rattle.rinda_rules.specs.declared.plain.Entry.{Entry}
 use Rattle.rinda_rules.specs.declared.plain.Request.{Request}
-use Rattle.rinda_rules.specs.declared.turn.Turn.{Turn}
 use Rattle.rinda_rules.specs.Rows.{row_of, changed, without}
-use Rattle.rinda_rules.specs.Space.{Plain, opening, tuple_at, request_at}
-use Rattle.rinda_rules.specs.Phases.{aged_tuple, aged_request, expires, in_state, held_by, tuple_ended}
-use Rattle.rinda_rules.specs.Cases.{new_tuple, new_request, read_by, settle_tuple, with_tuple, asked_doubt}
-use Rattle.rinda_rules.specs.Fixed.{after}
-use Rattle.rinda_rules.specs.Legal.{plain_from, LegalFrom}
+use Rattle.rinda_rules.specs.Space.{Plain, tuple_at, request_at}
+use Rattle.rinda_rules.specs.Sound.{Sound, is_holder, is_held_by, is_holding}
+use Rattle.rinda_rules.specs.Phases.{in_state, held_by, tuple_ended, with_tuple}
+use Rattle.rinda_rules.specs.AtOnce.{aged_tuple, aged_request, expires}
+use Rattle.rinda_rules.specs.Cases.{new_tuple, new_request, read_by, settle_tuple, asked_doubt, shut_request}
 use Rattle.rinda_rules.proofs.Lists.{all_imp, all_map, all_filter, all_filter_imp, all_append, all_changed, all_at, row_has_id, row_changed, row_changed_here, row_without}
-use Rattle.rinda_rules.proofs.Keeping.{Keeps, LeasesRequest, step_kept}
-use Rattle.rinda_laws.proofs.Telling.{settle_keeps}
+use Rattle.rinda_rules.proofs.Keeping.{Keeps, LeasesRequest}
 
--- a tuple is held by that request
-abbrev pub holder_is : ℕ → Option ℕ → Bool
-holder_is request None = false
-holder_is request (Some h) = h == request
-
-abbrev pub is_held_by : ℕ → Option Entry → Bool
-is_held_by request None = false
-is_held_by request (Some t) = holder_is request t.holder
-
--- a request holds what it is granted
-abbrev pub holds_granted : List Entry → ℕ → RequestState → Bool
+-- a request holds what it is granted, among these tuples
+abbrev holds_granted : List Entry → ℕ → RequestState → Bool
 holds_granted ts id state.Reserved = true
 holds_granted ts id state.Parked = true
 holds_granted ts id (state.Granted t) = is_held_by id (row_of (λ t. t.id) t ts)
@@ -40,11 +29,18 @@ holds_granted ts id (state.Answered o) = true
 pub record Gripping (s : Plain) : Type 0 where
   pub each : list_all (λ r. holds_granted s.tuples r.id r.state) s.requests ≡ true
 
-pub gripping_opening : Gripping opening
-gripping_opening = record { each = refl }
+same_holds : (s : Plain) (id : ℕ) (st : RequestState) → is_holding s id st ≡ true → holds_granted s.tuples id st ≡ true
+same_holds s id state.Reserved e = refl
+same_holds s id state.Parked e = refl
+same_holds s id (state.Granted t) e = e
+same_holds s id (state.Answered o) e = refl
+
+-- as a sound space has it
+pub gripping_sound : (s : Plain) → Sound s → Gripping s
+gripping_sound s sound = record { each = all_imp (λ r. is_holding s r.id r.state) (λ r. holds_granted s.tuples r.id r.state) (λ r. same_holds s r.id r.state) s.requests sound.granted }
 
 -- every hold that was there is there
-abbrev pub KeepsHolds : List Entry → List Entry → Type 0
+abbrev KeepsHolds : List Entry → List Entry → Type 0
 KeepsHolds ts ts' = (id h : ℕ) → is_held_by h (row_of (λ t. t.id) id ts) ≡ true → is_held_by h (row_of (λ t. t.id) id ts') ≡ true
 
 holds_more : (ts ts' : List Entry) → KeepsHolds ts ts' → (id : ℕ) (st : RequestState) → holds_granted ts id st ≡ true → holds_granted ts' id st ≡ true
@@ -61,14 +57,14 @@ holds-map f [] ids holders id h e = e
 holds-map f (t ∷ ts) ids holders id h e = grind (arith, nat_tests, ids t, holders t, holds-map f ts ids holders id h)
 
 -- what expires is held by nobody
-free_of : (o : Option ℕ) (h : ℕ) → is_none o ≡ true → holder_is h o ≡ false
+free_of : (o : Option ℕ) (h : ℕ) → is_none o ≡ true → is_holder h o ≡ false
 free_of None h e = refl
 free_of (Some n) h e = cc
 
 first : (a b : Bool) → (a && b) ≡ true → a ≡ true
 first a b e = grind arith
 
-expires_free : (now h : ℕ) (t : Entry) → expires now t ≡ true → holder_is h t.holder ≡ false
+expires_free : (now h : ℕ) (t : Entry) → expires now t ≡ true → is_holder h t.holder ≡ false
 expires_free now h t e = free_of t.holder h (first _ _ (first _ _ e))
 
 holds-filter : (now : ℕ) (ts : List Entry) → KeepsHolds ts (filter (λ t. not (expires now t)) ts)
@@ -93,7 +89,7 @@ holds-without : (ts : List Entry) (t : Entry) → row_of (λ t. t.id) t.id ts �
 holds-without ts t here free id h e = by_test (id == t.id) refl
   where
     nobody : is_held_by h (row_of (λ t. t.id) t.id ts) ≡ false
-    nobody = ap (is_held_by h) here ∙ ap (holder_is h) free
+    nobody = ap (is_held_by h) here ∙ ap (is_holder h) free
 
     contra : (b : Bool) → b ≡ true → b ≡ false → ⊥
     contra b x y = grind arith
@@ -112,7 +108,7 @@ holds-held : (ts : List Entry) (t : Entry) (request : ℕ) → row_of (λ t. t.i
 holds-held ts t request here free id h e = by_test (id == t.id) refl
   where
     nobody : is_held_by h (row_of (λ t. t.id) t.id ts) ≡ false
-    nobody = ap (is_held_by h) here ∙ ap (holder_is h) free
+    nobody = ap (is_held_by h) here ∙ ap (is_holder h) free
 
     contra : (b : Bool) → b ≡ true → b ≡ false → ⊥
     contra b x y = grind arith
@@ -152,6 +148,9 @@ aged_grip now ts r e = grind (arith, nat_tests)
 read_grip : (value : Tuple) (ts : List Entry) (r : Request) → holds_granted ts r.id r.state ≡ true → holds_granted ts (read_by value r).id (read_by value r).state ≡ true
 read_grip value ts r e = grind (arith, nat_tests)
 
+shut_grip : (ts : List Entry) (r : Request) → holds_granted ts r.id r.state ≡ true → holds_granted ts (shut_request r).id (shut_request r).state ≡ true
+shut_grip ts r e = grind (arith, nat_tests)
+
 leased_grip : (f : Request → Request) → LeasesRequest f → (ts : List Entry) (r : Request) → holds_granted ts r.id r.state ≡ true → holds_granted ts (f r).id (f r).state ≡ true
 leased_grip f k ts r e = rw (k.id r, k.state r) e
 
@@ -172,13 +171,23 @@ settled_else false tuple (Some t) s e u ne = by_mark t.marked
     by_mark true = row_without (λ (t : Entry). t.id) t.id u s.tuples apart
     by_mark false = row_changed (λ (t : Entry). t.id) t.id (λ t. record t { holder = None }) u s.tuples apart (λ _. refl)
 
-one_holder : (o : Option ℕ) (a b : ℕ) → holder_is a o ≡ true → holder_is b o ≡ true → a ≡ b
+one_holder : (o : Option ℕ) (a b : ℕ) → is_holder a o ≡ true → is_holder b o ≡ true → a ≡ b
 one_holder None a b x y = cc
 one_holder (Some h) a b x y = grind (arith, nat_tests)
 
 pub one_holds : (o : Option Entry) (a b : ℕ) → is_held_by a o ≡ true → is_held_by b o ≡ true → a ≡ b
 one_holds None a b x y = cc
 one_holds (Some t) a b x y = one_holder t.holder a b x y
+
+-- a Settle leaves the requests
+pub settle_keeps : (ok : Bool) (o : Option Entry) (s : Plain) → (settle_tuple ok o s).requests ≡ s.requests
+settle_keeps ok None s = refl
+settle_keeps true (Some t) s = refl
+settle_keeps false (Some t) s = by_test t.marked
+  where
+    by_test : (b : Bool) → (cond {A = Plain} b (tuple_ended last.Canceled t s) (with_tuple t.id (λ t. record t { holder = None }) s)).requests ≡ s.requests
+    by_test true = refl
+    by_test false = refl
 
 -- another request than the one that settles holds another tuple
 else_grip : (ts ts' : List Entry) (tuple settler : ℕ) → ((u : ℕ) → u ≢ tuple → row_of (λ t. t.id) u ts' ≡ row_of (λ t. t.id) u ts) → is_held_by settler (row_of (λ t. t.id) tuple ts) ≡ true → (id : ℕ) (st : RequestState) → id ≢ settler → holds_granted ts id st ≡ true → holds_granted ts' id st ≡ true
@@ -210,23 +219,23 @@ grip_at s r tuple there is h = subst (λ (st : RequestState). holds_granted s.tu
 pub gripping_keeps : (caller : ℕ) (event : Event) → Keeps caller event Gripping
 gripping_keeps caller event = record {
   advances = λ s at h. record { each = h.each };
-  ages = λ s h.
+  ages = λ s sound h.
       let ts : List Entry = map (aged_tuple s.clock) (filter (λ t. not (expires s.clock t)) s.tuples) in
       record {
         each = all_map (λ r. holds_granted ts r.id r.state) (aged_request s.clock) s.requests
             ∙ all_imp (λ r. holds_granted ts r.id r.state) (λ r. holds_granted ts (aged_request s.clock r).id (aged_request s.clock r).state) (aged_grip s.clock ts) s.requests (gripped_by s.tuples ts s.requests (holds-aged s.clock s.tuples) h.each);
       };
-  writes = λ s value lease h. record { each = gripped_by s.tuples (s.tuples ++ new_tuple s value lease ∷ []) s.requests (holds-append s.tuples (new_tuple s value lease ∷ [])) h.each };
-  writes_over = λ s value lease h. record { each = all_map (λ r. holds_granted s.tuples r.id r.state) (read_by value) s.requests ∙ all_imp (λ r. holds_granted s.tuples r.id r.state) (λ r. holds_granted s.tuples (read_by value r).id (read_by value r).state) (read_grip value s.tuples) s.requests h.each };
-  reserves = λ s k pattern lease h. record { each = all_append (λ r. holds_granted s.tuples r.id r.state) s.requests (new_request s caller k pattern lease ∷ []) h.each refl };
-  notifies = λ s e pattern lease h. record { each = h.each };
+  writes = λ s value lease unshut h. record { each = gripped_by s.tuples (s.tuples ++ new_tuple s value lease ∷ []) s.requests (holds-append s.tuples (new_tuple s value lease ∷ [])) h.each };
+  writes_over = λ s value lease unshut h. record { each = all_map (λ r. holds_granted s.tuples r.id r.state) (read_by value) s.requests ∙ all_imp (λ r. holds_granted s.tuples r.id r.state) (λ r. holds_granted s.tuples (read_by value r).id (read_by value r).state) (read_grip value s.tuples) s.requests h.each };
+  reserves = λ s k pattern lease unshut h. record { each = all_append (λ r. holds_granted s.tuples r.id r.state) s.requests (new_request s caller k pattern lease ∷ []) h.each refl };
+  notifies = λ s e pattern lease unshut h. record { each = h.each };
   tuple_leaves = λ l t s here isfree h. record { each = gripped_by s.tuples (without (λ t. t.id) t.id s.tuples) s.requests (holds-without s.tuples t here isfree) h.each };
   tuple_leases = λ i f s k h. record { each = gripped_by s.tuples (changed (λ t. t.id) i f s.tuples) s.requests (holds-changed i f s.tuples k.id k.holder) h.each };
   tuple_marks = λ t holder s here isheld h. record { each = gripped_by s.tuples (changed (λ t. t.id) t.id (λ t. record t { marked = true }) s.tuples) s.requests (holds-changed t.id (λ t. record t { marked = true }) s.tuples (λ t. refl) (λ t. refl)) h.each };
   request_leases = λ r f s there k may h. record { each = all_changed (λ r. holds_granted s.tuples r.id r.state) (λ r. r.id) r.id f s.requests (leased_grip f k s.tuples) h.each };
   request_asks = λ i s h. record { each = all_changed (λ r. holds_granted s.tuples r.id r.state) (λ r. r.id) i (λ r. record r { doubt = asked_doubt r.doubt }) s.requests (λ r e. e) h.each };
   request_marks = λ r s there is e h. record { each = all_changed (λ r. holds_granted s.tuples r.id r.state) (λ r. r.id) r.id (λ r. record r { marked = true }) s.requests (λ r e. e) h.each };
-  request_parks = λ r s there res mine is h. record { each = all_changed (λ r. holds_granted s.tuples r.id r.state) (λ r. r.id) r.id (in_state state.Parked) s.requests (λ r e. refl) h.each };
+  request_parks = λ r s there res unmarked mine is h. record { each = all_changed (λ r. holds_granted s.tuples r.id r.state) (λ r. r.id) r.id (in_state state.Parked) s.requests (λ r e. refl) h.each };
   request_answers = λ r o s there why h. record { each = all_changed (λ r. holds_granted s.tuples r.id r.state) (λ r. r.id) r.id (in_state (state.Answered o)) s.requests (λ r e. refl) h.each };
   request_ends = λ l r s there none mine of h. record { each = all_filter (λ r. holds_granted s.tuples r.id r.state) (λ x. not (x.id == r.id)) s.requests h.each };
   grants = λ r t s there here isfree why h.
@@ -246,8 +255,5 @@ gripping_keeps caller event = record {
       };
   notifier_changes = λ i f s k h. record { each = h.each };
   notifier_ends = λ l n s h. record { each = h.each };
+  shuts = λ s unshut is h. record { each = all_map (λ r. holds_granted s.tuples r.id r.state) shut_request s.requests ∙ all_imp (λ r. holds_granted s.tuples r.id r.state) (λ r. holds_granted s.tuples (shut_request r).id (shut_request r).state) (shut_grip s.tuples) s.requests h.each };
 }
-
-pub gripping_from : (s : Plain) (h : List Turn) → LegalFrom s h → Gripping s → Gripping (plain_from s h)
-gripping_from s [] legal g = g
-gripping_from s (t ∷ ts) legal g = gripping_from (after s t) ts legal.1 (step_kept t.caller t.event Gripping (gripping_keeps t.caller t.event) s t.at t.out t.picks (after s t) legal.0.step g)

@@ -1,11 +1,14 @@
-pub mod Owning
-pub mod Telling
-pub mod Staying
-pub mod Balancing
-pub mod Holding
-pub mod Letting
-pub mod Hearing
-pub mod Popping
-pub mod Deciding
-pub mod Overdue
-pub mod Expiring
+mod Turning
+mod Balancing
+mod Owning
+mod Holding
+mod Letting
+mod Staying
+mod Deciding
+mod Canceling
+mod Marking
+mod Expiring
+mod Hearing
+mod Popping
+mod Queueing
+mod Closing

@@ -7,14 +7,17 @@ use Rattle.rinda_rules.specs.declared.object.Last.TheVariants as last
 use Rattle.rinda_rules.specs.declared.event.Event.{Event}
 use Rattle.rinda_rules.specs.declared.event.Event.TheVariants.{Submit}
 use Rattle.rinda_rules.specs.declared.out.Out.{Out}
+use Rattle.rinda_rules.specs.declared.out.Out.TheVariants as out
 use Rattle.rinda_rules.specs.declared.row.RequestState.{RequestState}
 use Rattle.rinda_rules.specs.declared.row.RequestState.TheVariants as state
 use Rattle.rinda_rules.specs.declared.plain.Entry.{Entry}
 use Rattle.rinda_rules.specs.declared.plain.Request.{Request}
 use Rattle.rinda_rules.specs.Rows.{row_of, changed, without}
-use Rattle.rinda_rules.specs.Space.{Plain, request_at, tuple_at, is_due_request, is_waiting, is_parked, is_read, fits}
-use Rattle.rinda_rules.specs.Phases.{aged_request, in_state, tuple_ended}
-use Rattle.rinda_rules.specs.Cases.{new_request, read_by, settle_tuple, with_tuple, asked_doubt}
+use Rattle.rinda_rules.specs.Space.{Plain, request_at, tuple_at, is_due_request, is_waiting, is_parked, is_read}
+use Rattle.rinda_tuple.specs.Matching.{matches}
+use Rattle.rinda_rules.specs.Phases.{in_state, tuple_ended, with_tuple}
+use Rattle.rinda_rules.specs.AtOnce.{aged_request}
+use Rattle.rinda_rules.specs.Cases.{new_request, read_by, settle_tuple, asked_doubt, shut_request}
 use Rattle.rinda_rules.specs.Own.{is_of}
 use Rattle.rinda_rules.proofs.Lists.{row_has_id, row_map, row_append, row_without}
 use Rattle.rinda_rules.proofs.Keeping.{Keeps, Serves, waits, submits, Answers, serves, cancels}
@@ -80,14 +83,29 @@ module _ (states : RequestState → Bool) (owner id : ℕ) (free : Open states) 
   read_caller value r = grind (arith, nat_tests)
 
   read_state : (value : Tuple) (r : Request) → states r.state ≡ true → states (read_by value r).state ≡ true
-  read_state value r e = by_test (is_read r.kind && (is_waiting r && fits r.pattern value)) refl
+  read_state value r e = by_test (is_read r.kind && (is_waiting r && matches r.pattern value)) refl
     where
       middle : (a b c : Bool) → (a && (b && c)) ≡ true → b ≡ true
       middle a b c e = grind arith
 
-      by_test : (b : Bool) → (is_read r.kind && (is_waiting r && fits r.pattern value)) ≡ b → states (read_by value r).state ≡ true
+      by_test : (b : Bool) → (is_read r.kind && (is_waiting r && matches r.pattern value)) ≡ b → states (read_by value r).state ≡ true
       by_test true reads = opened r (read_by value r).state e (is_waiting-parked r (middle _ _ _ reads))
       by_test false reads = rw reads e
+
+  shut_id : (r : Request) → (shut_request r).id ≡ r.id
+  shut_id r = grind (arith, nat_tests)
+
+  shut_caller : (r : Request) → (shut_request r).caller ≡ r.caller
+  shut_caller r = grind (arith, nat_tests)
+
+  shut_state : (r : Request) → states r.state ≡ true → states (shut_request r).state ≡ true
+  shut_state r e = by_state r.state refl e
+    where
+      by_state : (st : RequestState) → r.state ≡ st → states st ≡ true → states (shut_request r).state ≡ true
+      by_state state.Reserved is e = rw is e
+      by_state state.Parked is e = rw is (free e (state.Answered out.Canceled))
+      by_state (state.Granted t) is e = rw is e
+      by_state (state.Answered o) is e = rw is e
 
   -- one row changed
   owns_changed : (of : ℕ) (f : Request → Request) (s : Plain) → ((r : Request) → (f r).id ≡ r.id) → ((r : Request) → (f r).caller ≡ r.caller) → ((r : Request) → request_at s id ≡ Some r → r.id ≡ of → states r.state ≡ true → states (f r).state ≡ true) → Owns states owner id s → Owns states owner id (record s { requests = changed (λ r. r.id) of f s.requests })
@@ -164,18 +182,18 @@ module _ (states : RequestState → Bool) (owner id : ℕ) (free : Open states) 
     pub owns_keeps : Keeps caller event (Owns states owner id)
     owns_keeps = record {
       advances = λ s at h. record { row = h.row; there = h.there; own = h.own; is = h.is };
-      ages = λ s h. record { row = aged_request s.clock h.row; there = owns_map (aged_request s.clock) s.requests h.row (aged_id s.clock) h.there; own = aged_caller s.clock h.row ∙ h.own; is = aged_state s.clock h.row h.is };
-      writes = λ s value lease h. record { row = h.row; there = h.there; own = h.own; is = h.is };
-      writes_over = λ s value lease h. record { row = read_by value h.row; there = owns_map (read_by value) s.requests h.row (read_id value) h.there; own = read_caller value h.row ∙ h.own; is = read_state value h.row h.is };
-      reserves = λ s k pattern lease h. record { row = h.row; there = row_append (λ (r : Request). r.id) id s.requests (new_request s caller k pattern lease ∷ []) h.row h.there; own = h.own; is = h.is };
-      notifies = λ s e pattern lease h. record { row = h.row; there = h.there; own = h.own; is = h.is };
+      ages = λ s sound h. record { row = aged_request s.clock h.row; there = owns_map (aged_request s.clock) s.requests h.row (aged_id s.clock) h.there; own = aged_caller s.clock h.row ∙ h.own; is = aged_state s.clock h.row h.is };
+      writes = λ s value lease unshut h. record { row = h.row; there = h.there; own = h.own; is = h.is };
+      writes_over = λ s value lease unshut h. record { row = read_by value h.row; there = owns_map (read_by value) s.requests h.row (read_id value) h.there; own = read_caller value h.row ∙ h.own; is = read_state value h.row h.is };
+      reserves = λ s k pattern lease unshut h. record { row = h.row; there = row_append (λ (r : Request). r.id) id s.requests (new_request s caller k pattern lease ∷ []) h.row h.there; own = h.own; is = h.is };
+      notifies = λ s e pattern lease unshut h. record { row = h.row; there = h.there; own = h.own; is = h.is };
       tuple_leaves = λ l t s here isfree h. record { row = h.row; there = h.there; own = h.own; is = h.is };
       tuple_leases = λ i f s k h. record { row = h.row; there = h.there; own = h.own; is = h.is };
       tuple_marks = λ t holder s here isheld h. record { row = h.row; there = h.there; own = h.own; is = h.is };
       request_leases = λ r f s there k may h. owns_changed r.id f s k.id k.caller (λ q here same e. subst (λ (st : RequestState). states st ≡ true) (sym (k.state q)) e) h;
       request_asks = λ i s h. owns_changed i (λ r. record r { doubt = asked_doubt r.doubt }) s (λ r. refl) (λ r. refl) (λ q here same e. e) h;
       request_marks = λ r s there is e h. owns_changed r.id (λ r. record r { marked = true }) s (λ r. refl) (λ r. refl) (λ q here same e. e) h;
-      request_parks = λ r s there res mine is h. owns_changed r.id (in_state state.Parked) s (λ r. refl) (λ r. refl) (λ q here same e. absurd (own_submit s r there mine is h (sym (row_has_id (λ (r : Request). r.id) id s.requests q here) ∙ same))) h;
+      request_parks = λ r s there res unmarked mine is h. owns_changed r.id (in_state state.Parked) s (λ r. refl) (λ r. refl) (λ q here same e. absurd (own_submit s r there mine is h (sym (row_has_id (λ (r : Request). r.id) id s.requests q here) ∙ same))) h;
       request_answers = λ r o s there why h. owns_changed r.id (in_state (state.Answered o)) s (λ r. refl) (λ r. refl) (answered_fine s r o there why h) h;
       request_ends = λ l r s there none mine of h. elsewhere (record s { requests = without (λ r. r.id) r.id s.requests }) _ refl (owns_without r.id s (not_own s r there mine of h) h);
       grants = λ r t s there here isfree why h. elsewhere (record s { requests = changed (λ r. r.id) r.id (in_state (state.Granted t.id)) s.requests }) _ refl (owns_changed r.id (in_state (state.Granted t.id)) s (λ r. refl) (λ r. refl) (served_fine s r (state.Granted t.id) there why h) h);
@@ -187,4 +205,10 @@ module _ (states : RequestState → Bool) (owner id : ℕ) (free : Open states) 
       };
       notifier_changes = λ i f s k h. record { row = h.row; there = h.there; own = h.own; is = h.is };
       notifier_ends = λ l n s h. record { row = h.row; there = h.there; own = h.own; is = h.is };
+      shuts = λ s unshut is h. record {
+        row = shut_request h.row;
+        there = owns_map shut_request s.requests h.row shut_id h.there;
+        own = shut_caller h.row ∙ h.own;
+        is = shut_state h.row h.is;
+      };
     }

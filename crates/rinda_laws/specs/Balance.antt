@@ -7,7 +7,8 @@ use Rattle.rinda_rules.specs.declared.plain.Raised.{Raised}
 use Rattle.rinda_rules.specs.declared.turn.Turn.{Turn}
 use Rattle.rinda_rules.specs.Space.{Plain, tuple_at}
 use Rattle.rinda_rules.specs.Settled.{Settled}
-use Rattle.rinda_rules.specs.Legal.{plain, Legal}
+use Rattle.rinda_rules.specs.Legal.{plain_from, LegalFrom}
+use Rattle.rinda_laws.specs.Starting.{IsStart, raised_since}
 
 abbrev pub is_write : Happening → Bool
 is_write happening.Write = true
@@ -43,18 +44,29 @@ deletes id events = how_many (λ e. is_delete e.what && e.id == id) events
 abbrev pub there : ℕ → List Entry → ℕ
 there id tuples = how_many (λ t. t.id == id) tuples
 
--- each tuple that was written is there, or left with one take or delete
-abbrev pub Balanced : Plain → Type 0
-Balanced s = (id : ℕ) → writes id s.events ≡ there id s.tuples + (takes id s.events + deletes id s.events)
+-- Of the events raised since the start: each tuple that was there or was written is there, or left with one take or
+-- delete.
+pub record Balanced (start : Plain) (id : ℕ) (s : Plain) : Type 0 where
+  pub balance :
+      there id start.tuples + writes id (raised_since start s)
+      ≡ there id s.tuples + (takes id (raised_since start s) + deletes id (raised_since start s))
+  pub once : there id start.tuples + writes id (raised_since start s) ≤ 1
 
--- Each tuple is written once, and leaves at most once, with one take or delete.
+-- Each tuple comes once, and leaves at most once, with one take or delete.
 abbrev pub LeavesOnce : Type 0
-LeavesOnce = (h : List Turn) → Legal h → Balanced (plain h) × ((id : ℕ) → writes id (plain h).events ≤ 1) × ((id : ℕ) → takes id (plain h).events + deletes id (plain h).events ≤ 1)
+LeavesOnce = (start : Plain) (h : List Turn) (id : ℕ) →
+    IsStart start → LegalFrom start h →
+    Balanced start id (plain_from start h)
+    × (takes id (raised_since start (plain_from start h)) + deletes id (raised_since start (plain_from start h)) ≤ 1)
 
 -- An id that was minted and names no tuple never names one again.
 abbrev pub GoneStays : Type 0
-GoneStays = (before later : List Turn) (id : ℕ) → Legal (before ++ later) → id < (plain before).next → tuple_at (plain before) id ≡ None → tuple_at (plain (before ++ later)) id ≡ None
+GoneStays = (start : Plain) (before later : List Turn) (id : ℕ) →
+    IsStart start → LegalFrom start (before ++ later) →
+    id < (plain_from start before).next → tuple_at (plain_from start before) id ≡ None →
+    tuple_at (plain_from start (before ++ later)) id ≡ None
 
--- After each turn nobody waits beside a match.
+-- After each turn nobody waits beside a match, and nothing is due.
 abbrev pub NobodyWaits : Type 0
-NobodyWaits = (before later : List Turn) → Legal (before ++ later) → Settled (plain before)
+NobodyWaits = (start : Plain) (before later : List Turn) →
+    IsStart start → LegalFrom start (before ++ later) → Settled (plain_from start before)

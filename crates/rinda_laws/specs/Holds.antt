@@ -1,13 +1,14 @@
 -- Who holds a tuple, and what lets it go.
-use Rattle.std.specs.Prelude.{◌≡◌, ℕ, Bool, false, ◌&&◌, ◌==◌, List, [], ◌∷◌, ◌++◌, None, Some}
+use Rattle.std.specs.Prelude.{◌≡◌, ◌≢◌, ℕ, Bool, true, false, ◌&&◌, ◌==◌, List, [], ◌∷◌, ◌++◌, Some}
+use Rattle.std.specs.List.{list_any}
 use Rattle.rinda_rules.specs.declared.event.Event.{Event}
-use Rattle.rinda_rules.specs.declared.event.Event.TheVariants.{Write, Reserve, Submit, Collect, Settle, Withdraw, Cancel, Renew, Look, Value, ReadAll, Notify, Pop, NextAsk, Asked, Tick}
+use Rattle.rinda_rules.specs.declared.event.Event.TheVariants.{Write, Reserve, Submit, Collect, Settle, Withdraw, Cancel, Renew, Look, Value, ReadAll, Notify, Pop, NextAsk, Asked, Tick, Shut}
 use Rattle.rinda_rules.specs.declared.turn.Turn.{Turn}
 use Rattle.rinda_rules.specs.declared.plain.Entry.{Entry}
 use Rattle.rinda_rules.specs.Space.{Plain, tuple_at}
-use Rattle.rinda_rules.specs.Cases.{outcome}
 use Rattle.rinda_rules.specs.Settled.{grants}
-use Rattle.rinda_rules.specs.Legal.{plain, Legal}
+use Rattle.rinda_rules.specs.Legal.{plain_from, LegalFrom}
+use Rattle.rinda_laws.specs.Starting.{IsStart, raised_since}
 use Rattle.rinda_laws.specs.Owns.{Owns, any}
 use Rattle.rinda_laws.specs.Balance.{takes}
 
@@ -35,20 +36,33 @@ is_settle request (Pop i) = false
 is_settle request NextAsk = false
 is_settle request (Asked i life) = false
 is_settle request Tick = false
+is_settle request Shut = false
 
--- A request that is granted a tuple holds it.
-abbrev pub GrantedIsHeld : Type 0
-GrantedIsHeld = (h : List Turn) → Legal h → (owner request id : ℕ) → Owns (grants id) owner request (plain h) → Holds request id (plain h)
-
--- And a tuple that is held is granted to its holder.
+-- A tuple that is held is granted to its holder, and a request that is granted a tuple holds it.
 abbrev pub HeldIsGranted : Type 0
-HeldIsGranted = (h : List Turn) → Legal h → (request id : ℕ) → Holds request id (plain h) → (owner : ℕ) × Owns (grants id) owner request (plain h)
+HeldIsGranted = (start : Plain) (h : List Turn) (request id : ℕ) →
+    IsStart start → LegalFrom start h →
+    (Holds request id (plain_from start h) → (owner : ℕ) × Owns (grants id) owner request (plain_from start h))
+    × ((owner : ℕ) → Owns (grants id) owner request (plain_from start h) → Holds request id (plain_from start h))
 
 -- A tuple that is held stays so until the caller of the request that holds it settles.
 abbrev pub HeldStays : Type 0
-HeldStays = (h : List Turn) (turn : Turn) (owner request id : ℕ) → Legal (h ++ turn ∷ []) → Holds request id (plain h) → Owns any owner request (plain h) →
-    (turn.caller == owner && is_settle request turn.event) ≡ false → Holds request id (plain (h ++ turn ∷ []))
+HeldStays = (start : Plain) (h : List Turn) (turn : Turn) (owner request id : ℕ) →
+    IsStart start → LegalFrom start (h ++ turn ∷ []) →
+    Holds request id (plain_from start h) → Owns any owner request (plain_from start h) →
+    (turn.caller == owner && is_settle request turn.event) ≡ false →
+    Holds request id (plain_from start (h ++ turn ∷ []))
 
--- A Settle with no doesn't take the tuple: whoever takes it then finds it free.
-abbrev pub NoTakesNothing : Type 0
-NoTakesNothing = (s : Plain) (caller request id : ℕ) → takes id (outcome s caller (Settle request false) None).after.events ≡ takes id s.events
+-- Why a turn may take a tuple that a request holds: its caller settles with yes; or with no, and then a pick of that
+-- turn names the tuple.
+pub data Settles (request id : ℕ) (turn : Turn) : Type 0 where
+  with_yes : turn.event ≡ Settle request true → Settles request id turn
+  with_no : turn.event ≡ Settle request false → list_any (λ pick. pick.tuple == id) turn.picks ≡ true → Settles request id turn
+
+-- A tuple that is held is taken only so.
+abbrev pub HeldIsTakenBySettle : Type 0
+HeldIsTakenBySettle = (start : Plain) (h : List Turn) (turn : Turn) (request id : ℕ) →
+    IsStart start → LegalFrom start (h ++ turn ∷ []) →
+    Holds request id (plain_from start h) →
+    takes id (raised_since (plain_from start h) (plain_from start (h ++ turn ∷ []))) ≢ 0 →
+    Owns (grants id) turn.caller request (plain_from start h) × Settles request id turn

@@ -1,3 +1,4 @@
+pub mod Starting
 pub mod Owns
 pub mod Balance
 pub mod Holds

@@ -12,7 +12,8 @@ use Rattle.rinda_rules.specs.declared.row.RequestState.{RequestState}
 use Rattle.rinda_rules.specs.declared.plain.Request.{Request}
 use Rattle.rinda_rules.specs.Space.{Plain, request_at, is_reserved}
 use Rattle.rinda_rules.specs.Settled.{grants}
-use Rattle.rinda_rules.specs.Legal.{Legal, plain}
+use Rattle.rinda_rules.specs.Legal.{plain_from, LegalFrom}
+use Rattle.rinda_laws.specs.Starting.{IsStart}
 use Rattle.rinda_rules.specs.Nothing.{is_nothing}
 use Rattle.rinda_rules.specs.Own.{is_of}
 
@@ -43,22 +44,22 @@ is_own caller id turn = turn.caller == caller && is_of id turn.event
 abbrev pub ends_own : ℕ → ℕ → Turn → Bool
 ends_own caller id turn = is_own caller id turn && is_last turn.out
 
--- From a Reserve that is answered Reserved on, until the turn of its own caller that ends it, the request is that caller's.
+-- From a Reserve that is answered Reserved on, until the turn of its own caller that ends it, the request is that
+-- caller's, and it begins in the state reserved.
 abbrev pub RequestStays : Type 0
-RequestStays = (before later : List Turn) (turn : Turn) (kind : Kind) (pattern : Template) (lease : Lease) (id : ℕ) →
-    Legal (before ++ turn ∷ later) → turn.event ≡ Reserve kind pattern lease → turn.out ≡ out.Reserved id →
-    list_all (λ next. not (ends_own turn.caller id next)) later ≡ true → Owns any turn.caller id (plain (before ++ turn ∷ later))
-
--- It begins in the state reserved.
-abbrev pub RequestBegins : Type 0
-RequestBegins = (before : List Turn) (turn : Turn) (kind : Kind) (pattern : Template) (lease : Lease) (id : ℕ) →
-    Legal (before ++ turn ∷ []) → turn.event ≡ Reserve kind pattern lease → turn.out ≡ out.Reserved id → Owns is_reserved turn.caller id (plain (before ++ turn ∷ []))
+RequestStays = (start : Plain) (before later : List Turn) (turn : Turn) (kind : Kind) (pattern : Template) (lease : Lease) (id : ℕ) →
+    IsStart start → LegalFrom start (before ++ turn ∷ later) →
+    turn.event ≡ Reserve kind pattern lease → turn.out ≡ out.Reserved id →
+    Owns is_reserved turn.caller id (plain_from start (before ++ turn ∷ []))
+    × (list_all (λ next. not (ends_own turn.caller id next)) later ≡ true →
+    Owns any turn.caller id (plain_from start (before ++ turn ∷ later)))
 
 -- A request is reserved, or granted a tuple, until its own caller's turn.
 abbrev pub StateStays : Type 0
-StateStays = (h : List Turn) (turn : Turn) (caller id : ℕ) → Legal (h ++ turn ∷ []) → is_own caller id turn ≡ false →
-    (Owns is_reserved caller id (plain h) → Owns is_reserved caller id (plain (h ++ turn ∷ [])))
-    × ((tuple : ℕ) → Owns (grants tuple) caller id (plain h) → Owns (grants tuple) caller id (plain (h ++ turn ∷ [])))
+StateStays = (start : Plain) (h : List Turn) (turn : Turn) (caller id : ℕ) →
+    IsStart start → LegalFrom start (h ++ turn ∷ []) → is_own caller id turn ≡ false →
+    (Owns is_reserved caller id (plain_from start h) → Owns is_reserved caller id (plain_from start (h ++ turn ∷ [])))
+    × ((tuple : ℕ) → Owns (grants tuple) caller id (plain_from start h) → Owns (grants tuple) caller id (plain_from start (h ++ turn ∷ [])))
 
 -- the answers of a Submit of a reserved request
 abbrev pub submits_well : Out → Bool
@@ -69,14 +70,14 @@ submits_well out.Expired = true
 submits_well out.Canceled = true
 submits_well _ = false
 
--- A Submit by its caller while it is reserved is answered so, and is never nothing.
-abbrev pub SubmitIsAnswered : Type 0
-SubmitIsAnswered = (h : List Turn) (turn : Turn) (id : ℕ) → Legal (h ++ turn ∷ []) → Owns is_reserved turn.caller id (plain h) → turn.event ≡ Submit id → submits_well turn.out ≡ true
+-- A Submit by its caller while it is reserved is answered so, a Settle by its caller while it is granted a tuple is
+-- answered Plain, and neither is ever nothing.
+abbrev pub OwnIsAnswered : Type 0
+OwnIsAnswered = (start : Plain) (h : List Turn) (turn : Turn) (id : ℕ) →
+    IsStart start → LegalFrom start (h ++ turn ∷ []) →
+    (turn.event ≡ Submit id → Owns is_reserved turn.caller id (plain_from start h) → submits_well turn.out ≡ true)
+    × ((tuple : ℕ) (ok : Bool) → turn.event ≡ Settle id ok → Owns (grants tuple) turn.caller id (plain_from start h) → turn.out ≡ out.Plain)
 
--- A Settle by its caller while it is granted a tuple is answered Plain.
-abbrev pub SettleIsAnswered : Type 0
-SettleIsAnswered = (h : List Turn) (turn : Turn) (id tuple : ℕ) (ok : Bool) → Legal (h ++ turn ∷ []) → Owns (grants tuple) turn.caller id (plain h) → turn.event ≡ Settle id ok → turn.out ≡ out.Plain
-
--- Neither is ever nothing.
 abbrev pub NeitherIsNothing : Type 0
-NeitherIsNothing = (s : Plain) (caller at id : ℕ) (ok : Bool) → (is_nothing s caller at (Submit id) ≡ false) × (is_nothing s caller at (Settle id ok) ≡ false)
+NeitherIsNothing = (s : Plain) (caller at id : ℕ) (ok : Bool) →
+    (is_nothing s caller at (Submit id) ≡ false) × (is_nothing s caller at (Settle id ok) ≡ false)

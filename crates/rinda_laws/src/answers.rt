@@ -1,30 +1,14 @@
 //! When a request is answered Expired or Canceled.
 
-ghost use Rattle.rinda_laws.specs.Decides.{ExpiredOnly, ExpiredIsDecided, ExpiredIsOver, CanceledOnly, CanceledIsMarked};
+ghost use Rattle.rinda_laws.specs.Decides.{ExpiredIsDecided, CanceledIsNamed};
 
-/// Expired is answered only to a Submit of a request that is over, has no renewer and no match; to the Collect or
-/// Withdraw of one that was answered so before; and of a notifier that has ended.
-pub fn expired_only()
-    ensures { ExpiredOnly }
-{}
-
-/// A request that a turn finds answered so was decided so by a turn before, or by that turn: in it the request waited,
-/// its deadline was at most now, and it had no renewer.
+/// Expired is answered only to a Submit of a request whose deadline is at most now, without a renewer and without a
+/// match; of a request that a turn before, or the same one, found waiting so; and of a notifier that has ended.
 pub fn expired_is_decided()
     ensures { ExpiredIsDecided }
 {}
 
-/// A request that was answered Expired while it waited has a deadline that is at most now, and no renewer.
-pub fn expired_is_over()
-    ensures { ExpiredIsOver }
-{}
-
-/// Canceled is answered only of a request that is marked or was answered so before.
-pub fn canceled_is_marked()
-    ensures { CanceledIsMarked }
-{}
-
-/// And such a request was canceled by a turn before.
-pub fn canceled_only()
-    ensures { CanceledOnly }
+/// Canceled is answered only of an id that a Cancel, or a Shut, named before or in that turn.
+pub fn canceled_is_named()
+    ensures { CanceledIsNamed }
 {}

@@ -1,13 +1,8 @@
 //! Who holds a tuple, and what lets it go.
 
-ghost use Rattle.rinda_laws.specs.Holds.{GrantedIsHeld, HeldIsGranted, HeldStays, NoTakesNothing};
+ghost use Rattle.rinda_laws.specs.Holds.{HeldIsGranted, HeldStays, HeldIsTakenBySettle};
 
-/// A request that is granted a tuple holds it.
-pub fn granted_is_held()
-    ensures { GrantedIsHeld }
-{}
-
-/// A tuple that is held is granted to its holder.
+/// A tuple that is held is granted to its holder, and a request that is granted a tuple holds it.
 pub fn held_is_granted()
     ensures { HeldIsGranted }
 {}
@@ -17,7 +12,8 @@ pub fn held_stays()
     ensures { HeldStays }
 {}
 
-/// A Settle with no takes nothing: only one with yes does.
-pub fn no_takes_nothing()
-    ensures { NoTakesNothing }
+/// A tuple that a Move holds ends as taken only where the Move's own caller settles with yes, or with no and a pick of
+/// the same turn names it.
+pub fn held_is_taken_by_settle()
+    ensures { HeldIsTakenBySettle }
 {}

@@ -1,13 +1,9 @@
 //! Whose a request is.
 
-ghost use Rattle.rinda_laws.specs.Owns.{RequestBegins, RequestStays, StateStays, SubmitIsAnswered, SettleIsAnswered, NeitherIsNothing};
+ghost use Rattle.rinda_laws.specs.Owns.{RequestStays, StateStays, OwnIsAnswered, NeitherIsNothing};
 
-/// A request begins in the state reserved, as the one of the caller that made it.
-pub fn request_begins()
-    ensures { RequestBegins }
-{}
-
-/// From then on, until its own caller's turn that ends it, it is there and is that caller's.
+/// A request begins reserved, as that of the caller that made it. From then on, until its own caller's turn that ends it,
+/// it is there and is that caller's.
 pub fn request_stays()
     ensures { RequestStays }
 {}
@@ -17,15 +13,10 @@ pub fn state_stays()
     ensures { StateStays }
 {}
 
-/// A Submit by its caller while it is reserved is answered with a tuple, Parked, Expired or Canceled: never
-/// WrongKind, Unknown or Recycled.
-pub fn submit_is_answered()
-    ensures { SubmitIsAnswered }
-{}
-
-/// A Settle by its caller while it is granted a tuple is answered Plain: never WrongKind, Unknown or Recycled.
-pub fn settle_is_answered()
-    ensures { SettleIsAnswered }
+/// A Submit by its caller while it is reserved is answered with a tuple, Parked, Expired or Canceled, and a Settle by its
+/// caller while it is granted a tuple Plain: neither is ever WrongKind, Unknown or Recycled.
+pub fn own_is_answered()
+    ensures { OwnIsAnswered }
 {}
 
 /// A Submit and a Settle are never nothing.

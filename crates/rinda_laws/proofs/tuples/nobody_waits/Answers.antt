@@ -1,7 +1,5 @@
-use Rattle.rinda_rules.specs.Space.{opening}
-use Rattle.rinda_rules.proofs.Settling.{reached_opening}
-use Rattle.rinda_laws.proofs.Staying.{LegalFrom-front}
+use Rattle.rinda_laws.proofs.Turning.{settled_from, LegalFrom-front}
 use Rattle.rinda_laws.proofs.tuples.nobody_waits.Goals as goal
 
 pub returns : goal.returns
-returns c before later legal = (reached_opening before (LegalFrom-front opening before later legal)).settled
+returns c start before later from legal = settled_from start before (LegalFrom-front start before later legal) from.settled
