@@ -1,0 +1,10 @@
+pub mod Touches
+pub mod Unserved
+pub mod Serves
+pub mod Served
+pub mod Ages
+pub mod Dues
+pub mod Answers
+pub mod Queues
+pub mod Turns
+pub mod Quiet
