@@ -1,0 +1,4 @@
+pub mod StandingLists
+pub mod TableLemmas
+pub mod Founds
+pub mod Starting
