@@ -5,7 +5,6 @@ use Rattle.std.specs.List.{list_all}
 use Rattle.std.proofs.lemmas.Bool.Decides.{nat_tests}
 use Rattle.std.proofs.lemmas.List.Folds.{list_all_at}
 use Rattle.drb_tree.specs.declared.Tree.{Tree}
-use Rattle.rinda_rules.specs.declared.plain.Entry.{Entry}
 use Rattle.rinda_rules.specs.declared.plain.Notifier.{Notifier}
 use Rattle.rinda_rules.specs.declared.plain.Hearing.{Hearing}
 use Rattle.rinda_rules.specs.declared.plain.Hearing.TheVariants as hearing
@@ -17,7 +16,9 @@ use Rattle.rinda_rules.proofs.Finding.{found-notifier, itself-notifier}
 use Rattle.rinda_rules.proofs.Lists.{all_filter, all_append, all_changed, all_changed_one, numbered-map, numbered-filter, numbered-changed, numbered-more, numbered-push}
 use Rattle.rinda_audit.specs.declared.changes.NotifierChange.{NotifierChange}
 use Rattle.rinda_audit.specs.declared.changes.NotifierChange.TheVariants as to_notifier
-use Rattle.rinda_audit.specs.Changes.{notifier_after, aged_notifier_in}
+use Rattle.rinda_rules.specs.Cases.{shut_notifier}
+use Rattle.rinda_rules.specs.Reopened.{notifier_again}
+use Rattle.rinda_audit.specs.Changes.{notifier_after}
 use Rattle.rinda_audit.specs.Counts.{Counted, Listed}
 use Rattle.rinda_audit.specs.Replays.{first}
 
@@ -49,11 +50,13 @@ counted_without next id ns es c = record {
 after_id : (change : NotifierChange) (n : Notifier) → (notifier_after change n).id ≡ n.id
 after_id (to_notifier.Hear next) n = refl
 after_id (to_notifier.Renew deadline renewer) n = refl
+after_id to_notifier.Doubt n = refl
 after_id to_notifier.Ask n = refl
 
 after_popped : (change : NotifierChange) (n : Notifier) → (notifier_after change n).popped ≡ n.popped
 after_popped (to_notifier.Hear next) n = refl
 after_popped (to_notifier.Renew deadline renewer) n = refl
+after_popped to_notifier.Doubt n = refl
 after_popped to_notifier.Ask n = refl
 
 pub counted_changed : (next id : ℕ) (change : NotifierChange) (ns : List Notifier) (es : List Raised) → Counted next ns es → Counted next (changed (λ n. n.id) id (notifier_after change) ns) es
@@ -71,23 +74,21 @@ counted_popped next n ns es there left c = record {
   within = all_changed_one (λ n. nat_le n.popped (length es)) (λ n. n.id) n.id (λ n. record n { popped = n.popped + 1 }) ns n (rises next ns c.named) there (grind (arith, nat_tests)) c.within;
 }
 
-aged_id : (now events : ℕ) (tuples : List Entry) (n : Notifier) → (aged_notifier_in now events tuples n).id ≡ n.id
-aged_id now events tuples n = grind (arith, nat_tests)
+within_map : (f : Notifier → Notifier) (most : ℕ) (ns : List Notifier) → ((n : Notifier) → (f n).popped ≡ n.popped) → list_all (λ n. nat_le n.popped most) ns ≡ true → list_all (λ n. nat_le n.popped most) (map f ns) ≡ true
+within_map f most [] keeps e = refl
+within_map f most (n ∷ ns) keeps e = grind (arith, nat_tests, keeps n, within_map f most ns keeps)
 
-aged_popped : (now events : ℕ) (tuples : List Entry) (n : Notifier) → (aged_notifier_in now events tuples n).popped ≡ n.popped
-aged_popped now events tuples n = grind (arith, nat_tests)
+pub counted_map : (next : ℕ) (f : Notifier → Notifier) (ns : List Notifier) (es : List Raised) → ((n : Notifier) → (f n).id ≡ n.id) → ((n : Notifier) → (f n).popped ≡ n.popped) → Counted next ns es → Counted next (map f ns) es
+counted_map next f ns es named popped c = record {
+  named = numbered-map (λ n. n.id) next f ns named c.named;
+  within = within_map f (length es) ns popped c.within;
+}
 
-within_aged : (now events : ℕ) (tuples : List Entry) (most : ℕ) (ns : List Notifier) → list_all (λ n. nat_le n.popped most) ns ≡ true → list_all (λ n. nat_le n.popped most) (map (aged_notifier_in now events tuples) ns) ≡ true
-within_aged now events tuples most [] e = refl
-within_aged now events tuples most (n ∷ ns) e = grind (arith, nat_tests, aged_popped now events tuples n, within_aged now events tuples most ns)
+shut_id : (until : ℕ) (n : Notifier) → (shut_notifier until n).id ≡ n.id
+shut_id until n = grind (arith, nat_tests)
 
-pub counted_aged : (next now events : ℕ) (tuples : List Entry) (ns : List Notifier) (es more : List Raised) → Counted next ns es → Counted next (map (aged_notifier_in now events tuples) ns) (es ++ more)
-counted_aged next now events tuples ns es more c =
-    counted_events next (map (aged_notifier_in now events tuples) ns) es more
-    (record {
-      named = numbered-map (λ n. n.id) next (aged_notifier_in now events tuples) ns (aged_id now events tuples) c.named;
-      within = within_aged now events tuples (length es) ns c.within;
-    })
+shut_popped : (until : ℕ) (n : Notifier) → (shut_notifier until n).popped ≡ n.popped
+shut_popped until n = grind (arith, nat_tests)
 
 -- What was found, and what is first in a queue.
 
@@ -141,7 +142,10 @@ counted_where_left next id rows ns ns' es read made c =
 pub counted_where_new : (next : ℕ) (n : Notifier) (ns ns' : List Notifier) (es : List Raised) → ns' ≡ ns ++ n ∷ [] → n.id ≡ next → n.popped ≡ 0 → Counted next ns es → Counted (next + 1) ns' es
 counted_where_new next n ns ns' es made id none c = subst (λ (xs : List Notifier). Counted (next + 1) xs es) (sym made) (counted_push next n ns es id none c)
 
-pub counted_where_aged : (next now events : ℕ) (tuples : List Entry) (rows ns ns' : List Notifier) (raised es es' more : List Raised) → rows ≡ ns → ns' ≡ map (aged_notifier_in now events tuples) rows → raised ≡ es → es' ≡ raised ++ more → Counted next ns es → Counted next ns' es'
-counted_where_aged next now events tuples rows ns ns' raised es es' more read made had joined c =
-    subst (λ (xs : List Raised). Counted next ns' xs) (sym (joined ∙ ap (λ (xs : List Raised). xs ++ more) had))
-    (subst (λ (xs : List Notifier). Counted next xs (es ++ more)) (sym (made ∙ ap (λ (xs : List Notifier). map (aged_notifier_in now events tuples) xs) read)) (counted_aged next now events tuples ns es more c))
+pub counted_where_shut : (next until : ℕ) (rows ns ns' : List Notifier) (es : List Raised) → rows ≡ ns → ns' ≡ map (shut_notifier until) rows → Counted next ns es → Counted next ns' es
+counted_where_shut next until rows ns ns' es read made c =
+    subst (λ (xs : List Notifier). Counted next xs es) (sym (made ∙ ap (λ (xs : List Notifier). map (shut_notifier until) xs) read)) (counted_map next (shut_notifier until) ns es (shut_id until) (shut_popped until) c)
+
+pub counted_where_again : (next : ℕ) (rows ns ns' : List Notifier) (es : List Raised) → rows ≡ ns → ns' ≡ map notifier_again rows → Counted next ns es → Counted next ns' es
+counted_where_again next rows ns ns' es read made c =
+    subst (λ (xs : List Notifier). Counted next xs es) (sym (made ∙ ap (λ (xs : List Notifier). map notifier_again xs) read)) (counted_map next notifier_again ns es (λ n. refl) (λ n. refl) c)

@@ -7,7 +7,8 @@ use Rattle.rinda_rules.specs.declared.out.Out.TheVariants as out
 use Rattle.rinda_rules.specs.declared.plain.Notifier.{Notifier}
 use Rattle.rinda_rules.specs.declared.plain.Raised.{Raised}
 use Rattle.rinda_rules.specs.Space.{Plain, event_value}
-use Rattle.rinda_rules.specs.Cases.{answers, pop_queue, pop_empty, with_notifier}
+use Rattle.rinda_rules.specs.Phases.{with_notifier}
+use Rattle.rinda_rules.specs.Cases.{answers, pop_queue, pop_empty}
 use Rattle.rinda_audit.specs.Replays.{first}
 
 pub pop_some : (s : Plain) (n : Notifier) (nothing : Out) (q : List Raised) (v : Tree) → Some v ≡ option_map event_value (first q) → pop_queue s n nothing q ≡ answers (with_notifier n.id (λ n. record n { popped = n.popped + 1 }) s) (out.Event v)

@@ -1,5 +1,5 @@
 -- What is done to one row, as a function of the row. docs/SPACE.md, Cases.
-use Rattle.std.specs.Prelude.{ℕ, ◌+◌, true, false, List, None, is_none, if◌then◌else◌}
+use Rattle.std.specs.Prelude.{ℕ, true, false, None}
 use Rattle.drb_tree.specs.declared.Tree.{Tree}
 use Rattle.rinda_tuple.specs.declared.tuple.Tuple.{Tuple}
 use Rattle.rinda_tuple.specs.declared.tuple.Template.{Template}
@@ -11,10 +11,9 @@ use Rattle.rinda_rules.specs.declared.object.Doubt.TheVariants as doubt
 use Rattle.rinda_rules.specs.declared.plain.Entry.{Entry}
 use Rattle.rinda_rules.specs.declared.plain.Request.{Request}
 use Rattle.rinda_rules.specs.declared.plain.Notifier.{Notifier}
-use Rattle.rinda_rules.specs.declared.object.Last.TheVariants as last
 use Rattle.rinda_rules.specs.declared.plain.Hearing.TheVariants as hearing
-use Rattle.rinda_rules.specs.Space.{is_due_notifier, renewer_of}
-use Rattle.rinda_rules.specs.Phases.{in_state, held_by, expire_before}
+use Rattle.rinda_rules.specs.Space.{renewer_of}
+use Rattle.rinda_rules.specs.Phases.{in_state, held_by, doubt_tuple, doubt_request, doubt_notifier}
 use Rattle.rinda_rules.specs.Cases.{asked_doubt, renewed_tuple, renewed_request, renewed_notifier}
 use Rattle.rinda_audit.specs.declared.changes.TupleChange.{TupleChange}
 use Rattle.rinda_audit.specs.declared.changes.TupleChange.TheVariants as to_tuple
@@ -23,35 +22,29 @@ use Rattle.rinda_audit.specs.declared.changes.RequestChange.TheVariants as to_re
 use Rattle.rinda_audit.specs.declared.changes.NotifierChange.{NotifierChange}
 use Rattle.rinda_audit.specs.declared.changes.NotifierChange.TheVariants as to_notifier
 
--- a tuple is held, let go, marked, renewed, or its renewer is being asked
+-- a tuple is held, let go, marked, renewed, doubted, or its renewer is being asked
 abbrev pub tuple_after : TupleChange → Entry → Entry
 tuple_after (to_tuple.Hold request) = held_by request
 tuple_after to_tuple.Free = λ t. record t { holder = None }
 tuple_after to_tuple.Mark = λ t. record t { marked = true }
 tuple_after (to_tuple.Renew deadline renewer) = renewed_tuple deadline renewer
+tuple_after to_tuple.Doubt = doubt_tuple
 tuple_after to_tuple.Ask = λ t. record t { doubt = asked_doubt t.doubt }
 
--- a request comes to a state, is marked, renewed, or its renewer is being asked
+-- a request comes to a state, is marked, renewed, doubted, or its renewer is being asked
 abbrev pub request_after : RequestChange → Request → Request
 request_after (to_request.Enter next) = in_state next
 request_after to_request.Mark = λ r. record r { marked = true }
 request_after (to_request.Renew deadline renewer) = renewed_request deadline renewer
+request_after to_request.Doubt = doubt_request
 request_after to_request.Ask = λ r. record r { doubt = asked_doubt r.doubt }
 
--- a notifier is closed, renewed, or its renewer is being asked
+-- a notifier is closed, renewed, doubted, or its renewer is being asked
 abbrev pub notifier_after : NotifierChange → Notifier → Notifier
 notifier_after (to_notifier.Hear next) = λ n. record n { state = next }
 notifier_after (to_notifier.Renew deadline renewer) = renewed_notifier deadline renewer
+notifier_after to_notifier.Doubt = doubt_notifier
 notifier_after to_notifier.Ask = λ n. record n { doubt = asked_doubt n.doubt }
-
--- a notifier once it has aged, where so many events were raised and these tuples are in the space
-abbrev pub aged_notifier_in : ℕ → ℕ → List Entry → Notifier → Notifier
-aged_notifier_in now events tuples n =
-    if is_due_notifier now n
-    then (if is_none n.renewer
-    then record n { state = hearing.Closed last.Expired (events + expire_before now n.id tuples) }
-    else record n { doubt = doubt.Waiting })
-    else n
 
 -- a tuple with that id, written at that time
 abbrev pub tuple_from : ℕ → ℕ → Tuple → Lease → Entry

@@ -1,3 +1,4 @@
+pub mod Aging
 pub mod Changes
 pub mod Finds
 pub mod Asks

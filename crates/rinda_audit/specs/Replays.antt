@@ -1,8 +1,8 @@
 -- What the replay of a turn says. docs/SPACE.md, Histories.
-use Rattle.std.specs.Prelude.{◌≡◌, ℕ, Bool, true, false, List, [], ◌∷◌, Option, Some, None}
+use Rattle.std.specs.Prelude.{◌≡◌, ℕ, ◌<◌, ◌^◌, Bool, true, false, List, [], ◌∷◌, Option, Some, None, IsTrue, if◌then◌else◌}
 use Rattle.rinda_rules.specs.declared.out.Out.{Out}
 use Rattle.rinda_rules.specs.declared.out.Out.TheVariants as out
-use Rattle.rinda_rules.specs.declared.event.Event.TheVariants.{Write, Reserve, Submit, Collect, Settle, Withdraw, Cancel, Renew, Look, Value, ReadAll, Notify, Pop, NextAsk, Asked, Tick}
+use Rattle.rinda_rules.specs.declared.event.Event.TheVariants.{Write, Reserve, Submit, Collect, Settle, Withdraw, Cancel, Renew, Look, Value, ReadAll, Notify, Pop, NextAsk, Asked, Tick, Shut}
 use Rattle.rinda_rules.specs.declared.turn.Turn.{Turn}
 use Rattle.rinda_rules.specs.declared.turn.Pick.{Pick}
 use Rattle.rinda_rules.specs.declared.event.Event.{Event}
@@ -28,43 +28,53 @@ abbrev pub first : {A : Type 0} → List A → Option A
 first [] = None
 first (a ∷ rest) = Some a
 
--- the event makes an object, which gets the next id
-abbrev pub mints : Event → Bool
-mints (Write value lease) = true
-mints (Reserve kind pattern lease) = true
-mints (Submit id) = false
-mints (Collect id) = false
-mints (Settle id ok) = false
-mints (Withdraw id) = false
-mints (Cancel id) = false
-mints (Renew id lease) = false
-mints (Look id) = false
-mints (Value id) = false
-mints (ReadAll pattern) = false
-mints (Notify event pattern lease) = true
-mints (Pop id) = false
-mints NextAsk = false
-mints (Asked id life) = false
-mints Tick = false
+-- the event makes an object in a space that takes it, which gets the next id
+abbrev pub makes : Event → Bool
+makes (Write value lease) = true
+makes (Reserve kind pattern lease) = true
+makes (Submit id) = false
+makes (Collect id) = false
+makes (Settle id ok) = false
+makes (Withdraw id) = false
+makes (Cancel id) = false
+makes (Renew id lease) = false
+makes (Look id) = false
+makes (Value id) = false
+makes (ReadAll pattern) = false
+makes (Notify event pattern lease) = true
+makes (Pop id) = false
+makes NextAsk = false
+makes (Asked id life) = false
+makes Tick = false
+makes Shut = false
 
--- the answer has that id where the event makes an object
-abbrev pub TellsId : Event → Out → ℕ → Type 0
-TellsId (Write value lease) o next = o ≡ out.Entry next
-TellsId (Reserve kind pattern lease) o next = o ≡ out.Reserved next
-TellsId (Submit id) o next = Unit {0}
-TellsId (Collect id) o next = Unit {0}
-TellsId (Settle id ok) o next = Unit {0}
-TellsId (Withdraw id) o next = Unit {0}
-TellsId (Cancel id) o next = Unit {0}
-TellsId (Renew id lease) o next = Unit {0}
-TellsId (Look id) o next = Unit {0}
-TellsId (Value id) o next = Unit {0}
-TellsId (ReadAll pattern) o next = Unit {0}
-TellsId (Notify event pattern lease) o next = o ≡ out.Notifier next
-TellsId (Pop id) o next = Unit {0}
-TellsId NextAsk o next = Unit {0}
-TellsId (Asked id life) o next = Unit {0}
-TellsId Tick o next = Unit {0}
+-- there is an id left for what the event makes
+abbrev pub HasRoom : Plain → Event → Type 0
+HasRoom s event = s.shut ≡ false → IsTrue (makes event) → s.next < 2 ^ 64
+
+-- Shut in a space that is shut, and else that
+abbrev pub unless_shut : Bool → Out → Out
+unless_shut shut o = if shut then out.Shut else o
+
+-- the answer has the next id where the event makes an object, or is Shut
+abbrev pub TellsId : Bool → ℕ → Event → Out → Type 0
+TellsId shut next (Write value lease) o = o ≡ unless_shut shut (out.Entry next)
+TellsId shut next (Reserve kind pattern lease) o = o ≡ unless_shut shut (out.Reserved next)
+TellsId shut next (Submit id) o = Unit {0}
+TellsId shut next (Collect id) o = Unit {0}
+TellsId shut next (Settle id ok) o = Unit {0}
+TellsId shut next (Withdraw id) o = Unit {0}
+TellsId shut next (Cancel id) o = Unit {0}
+TellsId shut next (Renew id lease) o = Unit {0}
+TellsId shut next (Look id) o = Unit {0}
+TellsId shut next (Value id) o = Unit {0}
+TellsId shut next (ReadAll pattern) o = Unit {0}
+TellsId shut next (Notify event pattern lease) o = o ≡ unless_shut shut (out.Notifier next)
+TellsId shut next (Pop id) o = Unit {0}
+TellsId shut next NextAsk o = Unit {0}
+TellsId shut next (Asked id life) o = Unit {0}
+TellsId shut next Tick o = Unit {0}
+TellsId shut next Shut o = Unit {0}
 
 -- the answer of the case with that choice, and the space after the picks
 abbrev pub case_after : Plain → ℕ → Event → Option Entry → List Pick → Outcome

@@ -1,222 +1,184 @@
-//! Aging: what becomes of each due row.
+//! Aging: each row that is due, in rising id.
 
-ghost use Rattle.std.specs.Prelude.{◌≡◌, ◌+◌, ◌<◌, ◌≤◌, ◌^◌, not, ◌++◌, map, filter, length, IfOk};
+ghost use Rattle.std.specs.Prelude.{◌≡◌, ◌<◌, ◌≤◌, ◌^◌, not, ◌||◌, nat_lt, nat_le, true, OnOk};
 ghost use Rattle.std.specs.List.{list_all};
-ghost use Rattle.rinda_rules.specs.Space.{retained as retained_spec, is_due_tuple as is_due_tuple_spec, is_due_request as is_due_request_spec, is_due_notifier as is_due_notifier_spec};
-ghost use Rattle.rinda_rules.specs.Phases.{expires as expires_spec, expired, deleted, aged_tuple as aged_tuple_spec, aged_request as aged_request_spec, expire_before as expire_before_spec};
-ghost use Rattle.rinda_audit.specs.Changes.{aged_notifier_in};
+ghost use Rattle.rinda_rules.specs.Space.{found as found_spec, is_due_tuple as is_due_tuple_spec, is_due_request as is_due_request_spec, is_due_notifier as is_due_notifier_spec};
+ghost use Rattle.rinda_rules.specs.Phases.{aged as aged_spec, age_found as age_found_spec, age_tuple as age_tuple_spec, age_request as age_request_spec, age_notifier as age_notifier_spec, nothing_due as nothing_due_spec};
+ghost use Rattle.rinda_audit.specs.Aging.{none_due, NextDue};
+ghost use Rattle.rinda_audit.specs.Finds.{seen};
 
-use crate::changes::{notifier_heard, request_entered};
-use crate::copies::{copy_entry, copy_events, copy_notifier, copy_request};
-use crate::row::{expires, is_due_notifier, is_due_request, is_due_tuple};
-use crate::rows::retained;
-use rinda_rules::plain::{Ended, Entry, Happening, Hearing, Notifier, Raised, Request};
-use rinda_rules::{Doubt, Last, ObjectKind, Out, RequestState};
+use crate::changes::{NotifierChange, RequestChange, TupleChange};
+use crate::found::Found;
+use crate::row::{is_due_notifier, is_due_request, is_due_tuple};
+use crate::state::Replay;
+use rinda_rules::plain::{Entry, Hearing, Notifier, Request};
+use rinda_rules::{Last, Out, RequestState};
 use std::alloc::{AllocError, Global};
 
-fn as_expired(t: &Entry) -> Ended
-    ensures { result ≡ expired t.now }
-{
-    Ended {
-        id: t.id,
-        kind: ObjectKind::Entry,
-        last: Last::Expired,
+impl Replay {
+    /// Each row that is due is doubted, ends, is answered or is closed, in rising id.
+    pub(crate) fn age(&mut self, alloc: Global) -> Result<(), AllocError>
+        ensures { OnOk result (self.new ≡ aged_spec self.old) }
+    {
+        let mut from = 0u128;
+        while let Some(id) = self.next_due(from) {
+            self.age_at(alloc, id)?;
+            from = id as u128 + 1;
+        }
+        Ok(())
     }
-}
 
-/// Each tuple that expires has ended.
-pub fn ended_with_expired(
-    alloc: Global,
-    ended: &[Ended],
-    tuples: &[Entry],
-    now: u64,
-) -> Result<Vec<Ended>, AllocError>
-    ensures { IfOk result (λ v. v.items ≡ retained_spec (ended.now ++ map expired (filter (expires_spec now) tuples.now))) }
-{
-    let mut all = Vec::from_slice(alloc, ended)?;
-    for t in tuples {
-        if expires(now, t) {
-            all.push(as_expired(t))?;
+    /// The least id from that one on of a row that is due.
+    fn next_due(&self, from: u128) -> Option<u64>
+        requires { from ≤ self.now.next }
+        ensures { NextDue self.now from result }
+    {
+        let now = self.clock;
+        let tuple = least_tuple(self.tuples.as_slice(), now, from, self.next);
+        let request = least_request(self.requests.as_slice(), now, from, tuple);
+        let least = least_notifier(self.notifiers.as_slice(), now, from, request);
+        if least < self.next {
+            Some(least as u64)
+        } else {
+            None
         }
     }
-    retained(alloc, all.as_slice())
-}
 
-fn as_deleted(alloc: Global, t: &Entry) -> Result<Raised, AllocError>
-    ensures { IfOk result (λ e. e ≡ deleted t.now) }
-{
-    let tuple = t.value.copy(alloc)?;
-    Ok(Raised {
-        what: Happening::Delete,
-        id: t.id,
-        tuple,
-    })
-}
+    fn age_at(&mut self, alloc: Global, id: u64) -> Result<(), AllocError>
+        ensures { OnOk result (self.new ≡ age_found_spec self.old (found_spec self.old id)) }
+    {
+        let found = self.found(alloc, id)?;
+        let done = self.age_found(alloc, &found);
+        drop(found);
+        done
+    }
 
-/// Each tuple that expires is raised as deleted.
-pub fn events_with_deletes(
-    alloc: Global,
-    events: &[Raised],
-    tuples: &[Entry],
-    now: u64,
-) -> Result<Vec<Raised>, AllocError>
-    ensures { IfOk result (λ v. v.items ≡ events.now ++ map deleted (filter (expires_spec now) tuples.now)) }
-{
-    let mut all = copy_events(alloc, events)?;
-    for t in tuples {
-        if expires(now, t) {
-            all.push(as_deleted(alloc, t)?)?;
+    fn age_found(&mut self, alloc: Global, found: &Found) -> Result<(), AllocError>
+        ensures { OnOk result (self.new ≡ age_found_spec self.old (seen found.now)) }
+    {
+        let now = self.clock;
+        match found {
+            Found::TheTuple(t) if is_due_tuple(now, t) => self.age_tuple(alloc, t),
+            Found::TheRequest(r) if is_due_request(now, r) => self.age_request(alloc, r),
+            Found::TheNotifier(n) if is_due_notifier(now, n) => self.age_notifier(alloc, n),
+            _ => Ok(()),
         }
     }
-    Ok(all)
-}
 
-fn aged_tuple(alloc: Global, now: u64, t: &Entry) -> Result<Entry, AllocError>
-    ensures { IfOk result (λ u. u ≡ aged_tuple_spec now t.now) }
-{
-    let due = is_due_tuple(now, t);
-    let copied = copy_entry(alloc, t)?;
-    Ok(if due { tuple_doubted(copied) } else { copied })
-}
-
-fn tuple_doubted(mut t: Entry) -> Entry
-    ensures { result ≡ record t { doubt = Doubt.Waiting } }
-{
-    t.doubt = Doubt::Waiting;
-    t
-}
-
-/// Of the tuples those that do not expire, each doubted where it is due.
-pub fn aged_tuples(alloc: Global, tuples: &[Entry], now: u64) -> Result<Vec<Entry>, AllocError>
-    ensures { IfOk result (λ v. v.items ≡ map (aged_tuple_spec now) (filter (λ t. not (expires_spec now t)) tuples.now)) }
-{
-    let mut left = Vec::new(alloc);
-    for t in tuples {
-        if !expires(now, t) {
-            left.push(aged_tuple(alloc, now, t)?)?;
+    fn age_tuple(&mut self, alloc: Global, t: &Entry) -> Result<(), AllocError>
+        ensures { OnOk result (self.new ≡ age_tuple_spec self.old t.now) }
+    {
+        if t.renewer.is_none() {
+            self.end_tuple(alloc, Last::Expired, t)
+        } else {
+            self.change_tuple(alloc, t.id, &TupleChange::Doubt)
         }
     }
-    Ok(left)
-}
 
-fn aged_request(alloc: Global, now: u64, r: &Request) -> Result<Request, AllocError>
-    ensures { IfOk result (λ q. q ≡ aged_request_spec now r.now) }
-{
-    let due = is_due_request(now, r);
-    let alone = r.renewer.is_none();
-    let copied = copy_request(alloc, r)?;
-    if !due {
-        return Ok(copied);
-    }
-    Ok(if alone {
-        request_entered(copied, RequestState::Answered(Out::Expired))
-    } else {
-        request_doubted(copied)
-    })
-}
-
-fn request_doubted(mut r: Request) -> Request
-    ensures { result ≡ record r { doubt = Doubt.Waiting } }
-{
-    r.doubt = Doubt::Waiting;
-    r
-}
-
-pub fn aged_requests(
-    alloc: Global,
-    requests: &[Request],
-    now: u64,
-) -> Result<Vec<Request>, AllocError>
-    ensures { IfOk result (λ v. v.items ≡ map (aged_request_spec now) requests.now) }
-{
-    let mut aged = Vec::new(alloc);
-    for r in requests {
-        aged.push(aged_request(alloc, now, r)?)?;
-    }
-    Ok(aged)
-}
-
-/// How many tuples of lower id expire.
-fn expire_before(now: u64, id: u64, tuples: &[Entry]) -> u64
-    ensures value { result ≡ expire_before_spec now id tuples.now }
-    ensures bound { result ≤ length tuples.now }
-{
-    let mut count = 0u64;
-    for t in tuples {
-        if expires(now, t) && t.id < id {
-            count += 1;
+    fn age_request(&mut self, alloc: Global, r: &Request) -> Result<(), AllocError>
+        ensures { OnOk result (self.new ≡ age_request_spec self.old r.now) }
+    {
+        if r.renewer.is_none() {
+            self.request_in(alloc, r.id, RequestState::Answered(Out::Expired))
+        } else {
+            self.change_request(alloc, r.id, &RequestChange::Doubt)
         }
     }
-    count
-}
 
-fn notifier_doubted(mut n: Notifier) -> Notifier
-    ensures { result ≡ record n { doubt = Doubt.Waiting } }
-{
-    n.doubt = Doubt::Waiting;
-    n
-}
-
-fn aged_notifier(
-    alloc: Global,
-    now: u64,
-    events: u64,
-    tuples: &[Entry],
-    n: &Notifier,
-) -> Result<Notifier, AllocError>
-    requires { events < 2 ^ 63 }
-    ensures { IfOk result (λ m. m ≡ aged_notifier_in now events tuples.now n.now) }
-{
-    let due = is_due_notifier(now, n);
-    let alone = n.renewer.is_none();
-    let id = n.id;
-    let copied = copy_notifier(alloc, n)?;
-    if !due {
-        return Ok(copied);
-    }
-    Ok(if alone {
-        notifier_heard(
-            copied,
-            Hearing::Closed {
+    fn age_notifier(&mut self, alloc: Global, n: &Notifier) -> Result<(), AllocError>
+        ensures { OnOk result (self.new ≡ age_notifier_spec self.old n.now) }
+    {
+        if n.renewer.is_none() {
+            let closed = Hearing::Closed {
                 last: Last::Expired,
-                until: events + expire_before(now, id, tuples),
-            },
-        )
-    } else {
-        notifier_doubted(copied)
-    })
-}
-
-pub fn aged_notifiers(
-    alloc: Global,
-    notifiers: &[Notifier],
-    now: u64,
-    events: u64,
-    tuples: &[Entry],
-) -> Result<Vec<Notifier>, AllocError>
-    requires { events < 2 ^ 63 }
-    ensures { IfOk result (λ v. v.items ≡ map (aged_notifier_in now events tuples.now) notifiers.now) }
-{
-    let mut aged = Vec::new(alloc);
-    for n in notifiers {
-        aged.push(aged_notifier(alloc, now, events, tuples, n)?)?;
+                until: self.events.len() as u64,
+            };
+            self.change_notifier(alloc, n.id, &NotifierChange::Hear(closed))
+        } else {
+            self.change_notifier(alloc, n.id, &NotifierChange::Doubt)
+        }
     }
-    Ok(aged)
+
+    /// No row is due.
+    pub(crate) fn nothing_due(&self) -> bool
+        ensures { result ≡ nothing_due_spec self.now }
+    {
+        no_tuple_due(self.tuples.as_slice(), self.clock)
+            && (no_request_due(self.requests.as_slice(), self.clock)
+                && no_notifier_due(self.notifiers.as_slice(), self.clock))
+    }
 }
 
-pub fn no_tuple_due(tuples: &[Entry], now: u64) -> bool
+/// The least id from that one on of a tuple that is due, where it is less than the most.
+fn least_tuple(rows: &[Entry], now: u64, from: u128, most: u128) -> u128
+    ensures most { result ≤ most }
+    ensures from { from ≤ most → from ≤ result }
+    ensures id { result < most → result < 2 ^ 64 }
+    ensures undue { none_due (λ t. t.id) (is_due_tuple_spec now) from result rows.now ≡ true }
+{
+    let mut least = most;
+    for t in rows {
+        least = sooner(is_due_tuple(now, t), t.id, from, least);
+    }
+    least
+}
+
+/// The least id from that one on of a request that is due, where it is less than the most.
+fn least_request(rows: &[Request], now: u64, from: u128, most: u128) -> u128
+    ensures most { result ≤ most }
+    ensures from { from ≤ most → from ≤ result }
+    ensures id { result < most → result < 2 ^ 64 }
+    ensures undue { none_due (λ r. r.id) (is_due_request_spec now) from result rows.now ≡ true }
+{
+    let mut least = most;
+    for r in rows {
+        least = sooner(is_due_request(now, r), r.id, from, least);
+    }
+    least
+}
+
+/// The least id from that one on of a notifier that is due, where it is less than the most.
+fn least_notifier(rows: &[Notifier], now: u64, from: u128, most: u128) -> u128
+    ensures most { result ≤ most }
+    ensures from { from ≤ most → from ≤ result }
+    ensures id { result < most → result < 2 ^ 64 }
+    ensures undue { none_due (λ n. n.id) (is_due_notifier_spec now) from result rows.now ≡ true }
+{
+    let mut least = most;
+    for n in rows {
+        least = sooner(is_due_notifier(now, n), n.id, from, least);
+    }
+    least
+}
+
+/// That id, where it is due, not before the first one and less than the least so far, and else the least so far.
+fn sooner(due: bool, id: u64, from: u128, least: u128) -> u128
+    ensures least { result ≤ least }
+    ensures from { from ≤ least → from ≤ result }
+    ensures id { result < least → result < 2 ^ 64 }
+    ensures undue { (not due || (nat_lt id from || nat_le result id)) ≡ true }
+{
+    let id = id as u128;
+    if due && from <= id && id < least {
+        id
+    } else {
+        least
+    }
+}
+
+fn no_tuple_due(tuples: &[Entry], now: u64) -> bool
     ensures { result ≡ list_all (λ t. not (is_due_tuple_spec now t)) tuples.now }
 {
     tuples.iter().all(|t| !is_due_tuple(now, t))
 }
 
-pub fn no_request_due(requests: &[Request], now: u64) -> bool
+fn no_request_due(requests: &[Request], now: u64) -> bool
     ensures { result ≡ list_all (λ r. not (is_due_request_spec now r)) requests.now }
 {
     requests.iter().all(|r| !is_due_request(now, r))
 }
 
-pub fn no_notifier_due(notifiers: &[Notifier], now: u64) -> bool
+fn no_notifier_due(notifiers: &[Notifier], now: u64) -> bool
     ensures { result ≡ list_all (λ n. not (is_due_notifier_spec now n)) notifiers.now }
 {
     notifiers.iter().all(|n| !is_due_notifier(now, n))

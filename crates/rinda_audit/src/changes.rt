@@ -3,7 +3,7 @@
 ghost use Rattle.std.specs.Prelude.{◌≡◌, ◌+◌, ◌<◌, ◌^◌, ◌==◌, nat_lt, true, IfOk, if◌then◌else◌};
 ghost use Rattle.std.specs.List.{list_all};
 ghost use Rattle.rinda_rules.specs.Rows.{changed};
-ghost use Rattle.rinda_rules.specs.Phases.{in_state};
+ghost use Rattle.rinda_rules.specs.Phases.{in_state, doubt_tuple, doubt_request, doubt_notifier};
 ghost use Rattle.rinda_rules.specs.Cases.{asked_doubt as asked_doubt_spec, renewed_tuple, renewed_request, renewed_notifier};
 ghost use Rattle.rinda_audit.specs.Changes.{tuple_after, request_after, notifier_after};
 
@@ -23,6 +23,8 @@ pub enum TupleChange {
     Mark,
     /// It has that deadline and that renewer, and no doubt.
     Renew(Option<u64>, Option<Remote>),
+    /// Its renewer has to be asked.
+    Doubt,
     /// Its renewer is being asked.
     Ask,
 }
@@ -33,6 +35,7 @@ pub enum RequestChange {
     Enter(RequestState),
     Mark,
     Renew(Option<u64>, Option<Remote>),
+    Doubt,
     Ask,
 }
 
@@ -41,6 +44,7 @@ pub enum RequestChange {
 pub enum NotifierChange {
     Hear(Hearing),
     Renew(Option<u64>, Option<Remote>),
+    Doubt,
     Ask,
 }
 
@@ -83,6 +87,7 @@ fn tuple_changed(alloc: Global, t: &Entry, change: &TupleChange) -> Result<Entry
         TupleChange::Free => Ok(tuple_held(copy_entry(alloc, t)?, None)),
         TupleChange::Mark => Ok(tuple_marked(copy_entry(alloc, t)?)),
         TupleChange::Renew(deadline, renewer) => tuple_with(alloc, t, *deadline, renewer),
+        TupleChange::Doubt => Ok(tuple_doubted(copy_entry(alloc, t)?)),
         TupleChange::Ask => Ok(tuple_asked(copy_entry(alloc, t)?)),
     }
 }
@@ -111,6 +116,13 @@ fn tuple_marked(mut t: Entry) -> Entry
     ensures { result ≡ record t { marked = true } }
 {
     t.marked = true;
+    t
+}
+
+fn tuple_doubted(mut t: Entry) -> Entry
+    ensures { result ≡ doubt_tuple t }
+{
+    t.doubt = Doubt::Waiting;
     t
 }
 
@@ -182,6 +194,7 @@ fn request_changed(
         RequestChange::Enter(state) => request_in(alloc, r, state),
         RequestChange::Mark => Ok(request_marked(copy_request(alloc, r)?)),
         RequestChange::Renew(deadline, renewer) => request_with(alloc, r, *deadline, renewer),
+        RequestChange::Doubt => Ok(request_doubted(copy_request(alloc, r)?)),
         RequestChange::Ask => Ok(request_asked(copy_request(alloc, r)?)),
     }
 }
@@ -214,10 +227,17 @@ pub fn request_entered(mut r: Request, state: RequestState) -> Request
     r
 }
 
-fn request_marked(mut r: Request) -> Request
+pub fn request_marked(mut r: Request) -> Request
     ensures { result ≡ record r { marked = true } }
 {
     r.marked = true;
+    r
+}
+
+fn request_doubted(mut r: Request) -> Request
+    ensures { result ≡ doubt_request r }
+{
+    r.doubt = Doubt::Waiting;
     r
 }
 
@@ -278,6 +298,7 @@ fn notifier_changed(
     match change {
         NotifierChange::Hear(state) => Ok(notifier_heard(copy_notifier(alloc, n)?, *state)),
         NotifierChange::Renew(deadline, renewer) => notifier_with(alloc, n, *deadline, renewer),
+        NotifierChange::Doubt => Ok(notifier_doubted(copy_notifier(alloc, n)?)),
         NotifierChange::Ask => Ok(notifier_asked(copy_notifier(alloc, n)?)),
     }
 }
@@ -299,6 +320,13 @@ pub fn notifier_heard(mut n: Notifier, state: Hearing) -> Notifier
     ensures { result ≡ record n { state = state } }
 {
     n.state = state;
+    n
+}
+
+fn notifier_doubted(mut n: Notifier) -> Notifier
+    ensures { result ≡ doubt_notifier n }
+{
+    n.doubt = Doubt::Waiting;
     n
 }
 

@@ -1,21 +1,11 @@
 //! Copies of the rows, made with their values.
 
 ghost use Rattle.std.specs.Prelude.{◌≡◌, IfOk};
-ghost use Rattle.rinda_rules.specs.Space.{value_of as value_of_spec};
 
-use drb_value::{Value, copy_items};
 use rinda_rules::RequestState;
 use rinda_rules::plain::{Entry, Notifier, Raised, Request};
-use rinda_tuple::{Tuple, copy_renewer};
+use rinda_tuple::copy_renewer;
 use std::alloc::{AllocError, Global};
-
-/// The list that a tuple spells.
-pub fn value_of(alloc: Global, t: &Tuple) -> Result<Value, AllocError>
-    ensures { IfOk result (λ v. v ≡ value_of_spec t.now) }
-{
-    let items = copy_items(alloc, t.items.as_slice())?;
-    Ok(Value::list(items))
-}
 
 pub fn copy_entry(alloc: Global, t: &Entry) -> Result<Entry, AllocError>
     ensures { IfOk result (λ u. u ≡ t.now) }

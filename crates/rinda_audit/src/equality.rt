@@ -31,6 +31,7 @@ pub fn is_same_out(a: &Out, b: &Out) -> bool
         Out::Recycled => matches!(b, Out::Recycled),
         Out::Unknown => matches!(b, Out::Unknown),
         Out::WrongKind => matches!(b, Out::WrongKind),
+        Out::Shut => matches!(b, Out::Shut),
     }
 }
 

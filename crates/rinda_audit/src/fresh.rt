@@ -3,16 +3,16 @@
 ghost use Rattle.std.specs.Prelude.{◌≡◌, map, IfOk};
 ghost use Rattle.rinda_rules.specs.Cases.{read_by as read_by_spec};
 ghost use Rattle.rinda_audit.specs.Changes.{tuple_from, request_from, notifier_from};
-ghost use Rattle.rinda_rules.specs.Space.{value_of as value_of_spec};
+ghost use Rattle.rinda_tuple.specs.Tuples.{value_of as value_of_spec};
 ghost use Rattle.rinda_rules.specs.Phases.{in_state};
 
 use crate::changes::request_entered;
-use crate::copies::{copy_request, value_of};
-use crate::row::{fits, is_read, is_waiting, renewer_of};
+use crate::copies::copy_request;
+use crate::row::{is_read, is_waiting, renewer_of};
 use drb_value::Value;
 use rinda_rules::plain::{Entry, Hearing, Notifier, Request};
 use rinda_rules::{Doubt, Kind, Out, RequestState};
-use rinda_tuple::{Lease, Template, Tuple, copy_renewer, deadline};
+use rinda_tuple::{Lease, Template, Tuple, copy_renewer, deadline, is_match};
 use std::alloc::{AllocError, Global};
 
 /// A tuple with that id, written at that time.
@@ -96,7 +96,7 @@ pub fn new_notifier(
     })
 }
 
-/// The requests, each waiting Read that the tuple fits answered with it.
+/// The requests, each waiting Read whose pattern matches the tuple answered with it.
 pub fn all_read_by(
     alloc: Global,
     requests: &[Request],
@@ -114,7 +114,7 @@ pub fn all_read_by(
 fn read_by(alloc: Global, value: &Tuple, r: &Request) -> Result<Request, AllocError>
     ensures { IfOk result (λ q. q ≡ read_by_spec value.now r.now) }
 {
-    if is_read(r.kind) && (is_waiting(r) && fits(&r.pattern, value)) {
+    if is_read(r.kind) && (is_waiting(r) && is_match(&r.pattern, value)) {
         answered_with(alloc, value, r)
     } else {
         copy_request(alloc, r)
@@ -124,7 +124,7 @@ fn read_by(alloc: Global, value: &Tuple, r: &Request) -> Result<Request, AllocEr
 fn answered_with(alloc: Global, value: &Tuple, r: &Request) -> Result<Request, AllocError>
     ensures { IfOk result (λ q. q ≡ in_state (RequestState.Answered (Out.Answer (value_of_spec value.now))) r.now) }
 {
-    let answer = value_of(alloc, value)?;
+    let answer = value.to_value(alloc)?;
     let copied = copy_request(alloc, r)?;
     Ok(request_entered(copied, RequestState::Answered(Out::Answer(answer))))
 }

@@ -2,13 +2,13 @@
 
 ghost use Rattle.std.specs.Prelude.{◌≡◌, ◌+◌, ◌<◌, length, Some, OnOk, IfOk};
 ghost use Rattle.rinda_rules.specs.Space.{notifier_at as notifier_at_spec, renewer_of as renewer_of_spec};
-ghost use Rattle.rinda_rules.specs.Cases.{answers, with_tuple, with_request, with_notifier, renewed_tuple, renewed_request, renewed_notifier, pop_empty as pop_empty_spec, pop_notifier as pop_notifier_spec, pop_ended as pop_ended_spec, pop as pop_spec, withdraw_request as withdraw_request_spec, withdraw as withdraw_spec, cancel_tuple as cancel_tuple_spec, cancel_request as cancel_request_spec, cancel_notifier as cancel_notifier_spec, cancel as cancel_spec, renew_request as renew_request_spec, renew_notifier as renew_notifier_spec, renew_with as renew_with_spec, look as look_spec, value_ended as value_ended_spec, value as value_spec, is_asked as is_asked_spec, told as told_spec, told_tuple as told_tuple_spec, told_request as told_request_spec, told_notifier as told_notifier_spec};
+ghost use Rattle.rinda_rules.specs.Phases.{with_tuple, with_request, with_notifier};
+ghost use Rattle.rinda_rules.specs.Cases.{answers, renewed_tuple, renewed_request, renewed_notifier, pop_empty as pop_empty_spec, pop_notifier as pop_notifier_spec, pop_ended as pop_ended_spec, pop as pop_spec, withdraw_request as withdraw_request_spec, withdraw as withdraw_spec, cancel_tuple as cancel_tuple_spec, cancel_request as cancel_request_spec, cancel_notifier as cancel_notifier_spec, cancel as cancel_spec, renew_request as renew_request_spec, renew_notifier as renew_notifier_spec, renew_with as renew_with_spec, look as look_spec, value_ended as value_ended_spec, value as value_spec, is_asked as is_asked_spec, told as told_spec, told_tuple as told_tuple_spec, told_request as told_request_spec, told_notifier as told_notifier_spec};
 ghost use Rattle.rinda_audit.specs.Counts.{Listed};
 ghost use Rattle.rinda_audit.specs.Finds.{seen};
 ghost use Rattle.rinda_audit.specs.Replays.{Is};
 
 use crate::changes::{NotifierChange, RequestChange, TupleChange};
-use crate::copies::value_of;
 use crate::flags;
 use crate::found::Found;
 use crate::queue::first_of;
@@ -299,7 +299,7 @@ impl Replay {
     {
         match found {
             Found::TheRequest(_) => Ok(Out::WrongKind),
-            Found::TheTuple(t) => Ok(Out::Answer(value_of(alloc, &t.value)?)),
+            Found::TheTuple(t) => Ok(Out::Answer(t.value.to_value(alloc)?)),
             Found::TheNotifier(_) => Ok(Out::WrongKind),
             Found::HasEnded(kind, _) => Ok(value_ended(*kind)),
             Found::IsRecycled => Ok(Out::Recycled),

@@ -1,25 +1,26 @@
 //! What each event does, between the two agings: the case table.
 
-ghost use Rattle.std.specs.Prelude.{◌≡◌, ◌<◌, ◌^◌, map, filter, ◌&&◌, IsTrue, OnOk, IfOk};
-ghost use Rattle.rinda_rules.specs.Space.{fits as fits_spec, is_live as is_live_spec, value_of as value_of_spec, found as found_spec};
+ghost use Rattle.std.specs.Prelude.{◌≡◌, ◌<◌, ◌^◌, false, map, filter, ◌&&◌, OnOk, IfOk};
+ghost use Rattle.rinda_tuple.specs.Matching.{matches as matches_spec};
+ghost use Rattle.rinda_tuple.specs.Tuples.{value_of as value_of_spec};
+ghost use Rattle.rinda_rules.specs.Space.{is_live as is_live_spec, found as found_spec};
 ghost use Rattle.rinda_rules.specs.Cases.{on_own, submit as submit_spec, collect as collect_spec, settle as settle_spec, withdraw as withdraw_spec, cancel as cancel_spec, look as look_spec, value as value_spec, pop as pop_spec, notify as notify_spec, renew as renew_spec, ask as ask_spec, askings, least, asked_for as asked_for_spec, told, outcome as outcome_spec};
 ghost use Rattle.rinda_tuple.specs.Lives.{deadline as deadline_spec};
 ghost use Rattle.rinda_audit.specs.Asks.{best_seen};
 ghost use Rattle.rinda_audit.specs.Finds.{seen};
-ghost use Rattle.rinda_audit.specs.Replays.{Is, mints as mints_spec};
+ghost use Rattle.rinda_audit.specs.Replays.{Is, HasRoom};
 
 use crate::asking::{Asking, least_notifier, least_request, least_tuple};
 use crate::changes::{NotifierChange, RequestChange, TupleChange};
-use crate::copies::value_of;
 use crate::found::Found;
 use crate::fresh::new_notifier;
 use crate::objects::renewer_for;
-use crate::row::{fits, is_live};
+use crate::row::is_live;
 use crate::state::Replay;
 use drb_value::Value;
 use rinda_rules::plain::Entry;
 use rinda_rules::{Event, Out};
-use rinda_tuple::{Lease, Life, Template, deadline};
+use rinda_tuple::{Lease, Life, Template, deadline, is_match};
 use sqlite_items::Items;
 use std::alloc::{AllocError, Global};
 
@@ -34,7 +35,7 @@ impl Replay {
         event: &Event,
         choice: &Option<Entry>,
     ) -> Result<Out, AllocError>
-        requires room { IsTrue (mints_spec event.now) → self.old.next < 2 ^ 64 }
+        requires room { HasRoom self.old event.now }
         ensures { IfOk result (λ o. Is o self.new (outcome_spec self.old caller event.now choice.now)) }
     {
         match event {
@@ -64,6 +65,7 @@ impl Replay {
             Event::NextAsk => self.ask(alloc),
             Event::Asked { id, life } => self.asked(alloc, *id, life),
             Event::Tick => Ok(Out::Plain),
+            Event::Shut => self.shut(alloc),
         }
     }
 
@@ -190,9 +192,12 @@ impl Replay {
         pattern: &Template,
         lease: &Lease,
     ) -> Result<Out, AllocError>
-        requires { self.old.next < 2 ^ 64 }
+        requires { self.old.shut ≡ false → self.old.next < 2 ^ 64 }
         ensures { IfOk result (λ o. Is o self.new (notify_spec self.old event.now pattern.now lease.now)) }
     {
+        if self.shut {
+            return Ok(Out::Shut);
+        }
         let id = self.next as u64;
         let since = self.events.len() as u64;
         let n = new_notifier(alloc, id, self.clock, since, event, pattern, lease)?;
@@ -241,12 +246,12 @@ fn all_of(
     pattern: &Template,
     tuples: &[Entry],
 ) -> Result<Items<Value>, AllocError>
-    ensures { IfOk result (λ all. all ≡ map (λ t. value_of_spec t.value) (filter (λ t. fits_spec pattern.now t.value && is_live_spec now t) tuples.now)) }
+    ensures { IfOk result (λ all. all ≡ map (λ t. value_of_spec t.value) (filter (λ t. matches_spec pattern.now t.value && is_live_spec now t) tuples.now)) }
 {
     let mut all = Items::new(alloc);
     for t in tuples {
-        if fits(pattern, &t.value) && is_live(now, t) {
-            all.push(value_of(alloc, &t.value)?)?;
+        if is_match(pattern, &t.value) && is_live(now, t) {
+            all.push(t.value.to_value(alloc)?)?;
         }
     }
     Ok(all)

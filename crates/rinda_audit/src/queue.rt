@@ -6,7 +6,6 @@ ghost use Rattle.rinda_rules.specs.Queue.{queue, until_end as until_end_spec};
 ghost use Rattle.rinda_rules.specs.Nothing.{is_empty as is_empty_spec};
 ghost use Rattle.rinda_audit.specs.Replays.{first};
 
-use crate::copies::value_of;
 use crate::row::{hears, text_of};
 use drb_value::Value;
 use rinda_rules::plain::{Hearing, Notifier, Raised};
@@ -79,6 +78,6 @@ fn event_value(alloc: Global, e: &Raised) -> Result<Value, AllocError>
 {
     let mut parts = Items::new(alloc);
     parts.push(text_of(alloc, e.what)?)?;
-    parts.push(value_of(alloc, &e.tuple)?)?;
+    parts.push(e.tuple.to_value(alloc)?)?;
     Ok(Value::list(parts))
 }

@@ -1,13 +1,12 @@
 //! Write and Reserve, and what a request's own caller makes of it: Submit, Collect and Settle.
 
-ghost use Rattle.std.specs.Prelude.{◌≡◌, ◌+◌, ◌<◌, ◌^◌, OnOk, IfOk, Some};
+ghost use Rattle.std.specs.Prelude.{◌≡◌, ◌+◌, ◌<◌, ◌^◌, false, OnOk, IfOk, Some};
 ghost use Rattle.rinda_rules.specs.Space.{tuple_at as tuple_at_spec};
 ghost use Rattle.rinda_rules.specs.Cases.{minted, written as written_spec, written_over as written_over_spec, write_tuple as write_tuple_spec, write as write_spec, reserve as reserve_spec, submit_unmatched as submit_unmatched_spec, submit_matched as submit_matched_spec, submit as submit_spec, collect_served as collect_served_spec, value_at as value_at_spec, collect as collect_spec, let_go as let_go_spec, settle_tuple as settle_tuple_spec, settle as settle_spec, on_own};
 ghost use Rattle.rinda_audit.specs.Finds.{seen};
 ghost use Rattle.rinda_audit.specs.Replays.{Is};
 
 use crate::changes::TupleChange;
-use crate::copies::value_of;
 use crate::flags::last_of;
 use crate::found::Found;
 use crate::fresh::{all_read_by, new_request, new_tuple};
@@ -35,9 +34,12 @@ impl Replay {
         value: &Tuple,
         lease: &Lease,
     ) -> Result<Out, AllocError>
-        requires { self.old.next < 2 ^ 64 }
+        requires { self.old.shut ≡ false → self.old.next < 2 ^ 64 }
         ensures { IfOk result (λ o. Is o self.new (write_spec self.old value.now lease.now)) }
     {
+        if self.shut {
+            return Ok(Out::Shut);
+        }
         let id = self.next as u64;
         let t = new_tuple(alloc, id, self.clock, value, lease)?;
         self.write_tuple(alloc, t)?;
@@ -82,9 +84,12 @@ impl Replay {
         pattern: &Template,
         lease: &Lease,
     ) -> Result<Out, AllocError>
-        requires { self.old.next < 2 ^ 64 }
+        requires { self.old.shut ≡ false → self.old.next < 2 ^ 64 }
         ensures { IfOk result (λ o. Is o self.new (reserve_spec self.old caller kind pattern.now lease.now)) }
     {
+        if self.shut {
+            return Ok(Out::Shut);
+        }
         let id = self.next as u64;
         let r = new_request(alloc, id, self.clock, caller, kind, pattern, lease)?;
         self.requests.push(r)?;
@@ -157,13 +162,13 @@ impl Replay {
         match r.kind {
             Kind::Read => {
                 self.end_request(alloc, Last::Done, r.id)?;
-                Ok(Out::Answer(value_of(alloc, &t.value)?))
+                Ok(Out::Answer(t.value.to_value(alloc)?))
             }
             Kind::Take => {
                 self.end_request(alloc, Last::Done, r.id)?;
-                Ok(Out::Answer(value_of(alloc, &t.value)?))
+                Ok(Out::Answer(t.value.to_value(alloc)?))
             }
-            Kind::Move => Ok(Out::Granted(r.id, value_of(alloc, &t.value)?)),
+            Kind::Move => Ok(Out::Granted(r.id, t.value.to_value(alloc)?)),
         }
     }
 
@@ -228,7 +233,7 @@ impl Replay {
     {
         match self.tuple_at(alloc, tuple)? {
             None => Ok(Value::nil()),
-            Some(t) => value_of(alloc, &t.value),
+            Some(t) => t.value.to_value(alloc),
         }
     }
 
@@ -293,7 +298,7 @@ impl Replay {
     }
 
     /// The tuple that was held is free, or ends where it was canceled meanwhile.
-    fn let_go(&mut self, alloc: Global, t: &Entry) -> Result<(), AllocError>
+    pub(crate) fn let_go(&mut self, alloc: Global, t: &Entry) -> Result<(), AllocError>
         ensures { OnOk result (self.new ≡ let_go_spec t.now self.old) }
     {
         if t.marked {

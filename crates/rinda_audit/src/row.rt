@@ -1,21 +1,14 @@
 //! The tests of one row, each a word of the rules.
 
 ghost use Rattle.std.specs.Prelude.{◌≡◌, IfOk};
-ghost use Rattle.rinda_rules.specs.Space.{fits as fits_spec, hears as hears_spec, is_over as is_over_spec, renewer_of as renewer_of_spec, is_doubted as is_doubted_spec, is_free as is_free_spec, is_live as is_live_spec, is_due_tuple as is_due_tuple_spec, is_reserved as is_reserved_spec, is_parked as is_parked_spec, is_read as is_read_spec, is_waiting as is_waiting_spec, is_due_request as is_due_request_spec, may_have as may_have_spec, is_running as is_running_spec, is_due_notifier as is_due_notifier_spec, text_of as text_of_spec};
-ghost use Rattle.rinda_rules.specs.Phases.{expires as expires_spec};
+ghost use Rattle.rinda_rules.specs.Space.{hears as hears_spec, is_over as is_over_spec, renewer_of as renewer_of_spec, is_doubted as is_doubted_spec, is_free as is_free_spec, is_live as is_live_spec, is_due_tuple as is_due_tuple_spec, is_reserved as is_reserved_spec, is_parked as is_parked_spec, is_read as is_read_spec, is_waiting as is_waiting_spec, is_due_request as is_due_request_spec, may_have as may_have_spec, is_running as is_running_spec, is_due_notifier as is_due_notifier_spec, text_of as text_of_spec};
 
 use drb_tree::{Bytes, Code, Remote, Text};
 use drb_value::{Node, Value};
 use rinda_rules::plain::{Entry, Happening, Hearing, Notifier, Raised, Request};
 use rinda_rules::{Doubt, Kind, RequestState};
-use rinda_tuple::{Template, Tuple, is_match, suits};
+use rinda_tuple::{is_match, suits};
 use std::alloc::{AllocError, Global};
-
-pub fn fits(pattern: &Template, tuple: &Tuple) -> bool
-    ensures { result ≡ fits_spec pattern.now tuple.now }
-{
-    is_match(pattern, tuple)
-}
 
 pub fn is_over(now: u64, deadline: Option<u64>) -> bool
     ensures { result ≡ is_over_spec now deadline }
@@ -54,13 +47,6 @@ pub fn is_due_tuple(now: u64, t: &Entry) -> bool
     is_free(t) && (!is_doubted(t.doubt) && is_over(now, t.deadline))
 }
 
-/// A due tuple without a renewer.
-pub fn expires(now: u64, t: &Entry) -> bool
-    ensures { result ≡ expires_spec now t.now }
-{
-    is_due_tuple(now, t) && t.renewer.is_none()
-}
-
 pub fn is_reserved(state: &RequestState) -> bool
     ensures { result ≡ is_reserved_spec state.now }
 {
@@ -94,7 +80,7 @@ pub fn is_due_request(now: u64, r: &Request) -> bool
 pub fn may_have(now: u64, r: &Request, t: &Entry) -> bool
     ensures { result ≡ may_have_spec now r.now t.now }
 {
-    fits(&r.pattern, &t.value) && (is_live(now, t) && (is_read(r.kind) || is_free(t)))
+    is_match(&r.pattern, &t.value) && (is_live(now, t) && (is_read(r.kind) || is_free(t)))
 }
 
 pub fn is_running(state: Hearing) -> bool
@@ -142,5 +128,5 @@ pub fn hears(alloc: Global, n: &Notifier, e: &Raised) -> Result<bool, AllocError
     ensures { IfOk result (λ b. b ≡ hears_spec n.now e.now) }
 {
     let text = text_of(alloc, e.what)?;
-    Ok(suits(&n.event, &text) && fits(&n.pattern, &e.tuple))
+    Ok(suits(&n.event, &text) && is_match(&n.pattern, &e.tuple))
 }

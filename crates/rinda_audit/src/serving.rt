@@ -1,12 +1,12 @@
 //! Serve: which picks may be made, and what they do.
 
 ghost use Rattle.std.specs.Prelude.{◌≡◌, OnOk, IfOk, IsTrue, Some};
-ghost use Rattle.rinda_rules.specs.Space.{tuple_at as tuple_at_spec, has_match as has_match_spec, can_be_served as can_be_served_spec, value_of as value_of_spec};
+ghost use Rattle.rinda_tuple.specs.Tuples.{value_of as value_of_spec};
+ghost use Rattle.rinda_rules.specs.Space.{tuple_at as tuple_at_spec, has_match as has_match_spec, can_be_served as can_be_served_spec};
 ghost use Rattle.rinda_rules.specs.Phases.{read_waits as read_waits_spec, nobody_waits as nobody_waits_spec, is_match as is_match_spec, may_serve as may_serve_spec, may_serve_row as may_serve_row_spec, served_rows, served as served_spec, served_with as served_with_spec, request_in as request_in_spec};
 ghost use Rattle.rinda_rules.specs.Fixed.{served_all, picks_serve};
 
 use crate::changes::TupleChange;
-use crate::copies::value_of;
 use crate::row::{is_read, is_waiting, may_have};
 use crate::state::Replay;
 use rinda_rules::plain::{Entry, Request};
@@ -101,7 +101,7 @@ impl Replay {
     fn answer_with(&mut self, alloc: Global, id: u64, tuple: &Tuple) -> Result<(), AllocError>
         ensures { OnOk result (self.new ≡ request_in_spec id (RequestState.Answered (Out.Answer (value_of_spec tuple.now))) self.old) }
     {
-        let answer = RequestState::Answered(Out::Answer(value_of(alloc, tuple)?));
+        let answer = RequestState::Answered(Out::Answer(tuple.to_value(alloc)?));
         self.request_in(alloc, id, answer)
     }
 

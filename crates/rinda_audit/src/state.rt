@@ -2,15 +2,14 @@
 
 ghost use Rattle.std.specs.Prelude.{◌≡◌, ◌+◌, ◌<◌, length, OnOk, IfOk, Some, None};
 ghost use Rattle.rinda_rules.specs.Space.{tuple_at as tuple_at_spec, request_at as request_at_spec, notifier_at as notifier_at_spec, ended_at as ended_at_spec, found as found_spec, found_among as found_among_spec, opening};
-ghost use Rattle.rinda_rules.specs.Phases.{advanced, raised as raised_spec, ended as ended_spec, happening_of as happening_of_spec, tuple_ended as tuple_ended_spec, request_ended as request_ended_spec, notifier_ended as notifier_ended_spec, aged as aged_spec, nothing_due as nothing_due_spec, request_in as request_in_spec};
-ghost use Rattle.rinda_rules.specs.Cases.{with_tuple, with_request, with_notifier};
+ghost use Rattle.rinda_rules.specs.Phases.{advanced, raised as raised_spec, ended as ended_spec, happening_of as happening_of_spec, tuple_ended as tuple_ended_spec, request_ended as request_ended_spec, notifier_ended as notifier_ended_spec, with_tuple, with_request, with_notifier, request_in as request_in_spec};
 ghost use Rattle.rinda_audit.specs.Changes.{tuple_after, request_after, notifier_after};
 ghost use Rattle.rinda_audit.specs.Finds.{seen};
 
 use crate::changes::{self, NotifierChange, RequestChange, TupleChange};
 use crate::copies::{copy_entries, copy_events, copy_notifiers, copy_requests};
 use crate::found::Found;
-use crate::{aging, rows};
+use crate::rows;
 use rinda_rules::plain::{Ended, Entry, Happening, Notifier, Raised, Request};
 use rinda_rules::{Last, ObjectKind, RequestState};
 use std::alloc::{AllocError, Global};
@@ -21,6 +20,7 @@ use std::marker::Model;
 pub struct Replay {
     pub(crate) clock: u64,
     pub(crate) next: u128,
+    pub(crate) shut: bool,
     pub(crate) tuples: Vec<Entry>,
     pub(crate) requests: Vec<Request>,
     pub(crate) notifiers: Vec<Notifier>,
@@ -38,7 +38,7 @@ impl Model for Replay {
 
     ghost coded = { Prim.hlevel (codes, e.the_row.coded) };
 
-    ghost view = { λ s. record { clock = s.clock; next = s.next; tuples = s.tuples.items; requests = s.requests.items; notifiers = s.notifiers.items; events = s.events.items; ended = s.ended.items } };
+    ghost view = { λ s. record { clock = s.clock; next = s.next; shut = s.shut; tuples = s.tuples.items; requests = s.requests.items; notifiers = s.notifiers.items; events = s.events.items; ended = s.ended.items } };
 
     ghost invariant = { λ s. Counted s.next s.notifiers.items s.events.items };
 }
@@ -51,6 +51,7 @@ impl Replay {
         Replay {
             clock: 0,
             next: 1,
+            shut: false,
             tuples: Vec::new(alloc),
             requests: Vec::new(alloc),
             notifiers: Vec::new(alloc),
@@ -71,6 +72,7 @@ impl Replay {
         Ok(Replay {
             clock: self.clock,
             next: self.next,
+            shut: self.shut,
             tuples,
             requests,
             notifiers,
@@ -273,39 +275,6 @@ impl Replay {
         let left = rows::notifiers_without(alloc, all, id)?;
         self.notifiers = left;
         self.end(alloc, ObjectKind::Notifier, id, last)
-    }
-
-    /// Each due row is doubted, ends, is answered or is closed.
-    pub(crate) fn age(&mut self, alloc: Global) -> Result<(), AllocError>
-        ensures { OnOk result (self.new ≡ aged_spec self.old) }
-    {
-        let now = self.clock;
-        let raised = self.events.len() as u64;
-        let all_tuples = self.tuples.as_slice();
-        let all_requests = self.requests.as_slice();
-        let all_notifiers = self.notifiers.as_slice();
-        let all_events = self.events.as_slice();
-        let all_ended = self.ended.as_slice();
-        let notifiers = aging::aged_notifiers(alloc, all_notifiers, now, raised, all_tuples)?;
-        let requests = aging::aged_requests(alloc, all_requests, now)?;
-        let events = aging::events_with_deletes(alloc, all_events, all_tuples, now)?;
-        let ended = aging::ended_with_expired(alloc, all_ended, all_tuples, now)?;
-        let tuples = aging::aged_tuples(alloc, all_tuples, now)?;
-        self.notifiers = notifiers;
-        self.requests = requests;
-        self.events = events;
-        self.ended = ended;
-        self.tuples = tuples;
-        Ok(())
-    }
-
-    /// No row is due.
-    pub(crate) fn nothing_due(&self) -> bool
-        ensures { result ≡ nothing_due_spec self.now }
-    {
-        aging::no_tuple_due(self.tuples.as_slice(), self.clock)
-            && (aging::no_request_due(self.requests.as_slice(), self.clock)
-                && aging::no_notifier_due(self.notifiers.as_slice(), self.clock))
     }
 }
 

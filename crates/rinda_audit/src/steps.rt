@@ -1,6 +1,6 @@
 //! Whether a turn may come next, and what it leaves.
 
-ghost use Rattle.std.specs.Prelude.{◌≡◌, ◌<◌, ◌^◌, ◌↔◌, ◌&&◌, Some, IsTrue, IfOk, OnErr, is_none, if◌then◌else◌};
+ghost use Rattle.std.specs.Prelude.{◌≡◌, ◌↔◌, ◌&&◌, Some, IsTrue, IfOk, OnErr, is_none, if◌then◌else◌};
 ghost use Rattle.rinda_rules.specs.Space.{found as found_spec};
 ghost use Rattle.rinda_rules.specs.Phases.{aged as aged_spec};
 ghost use Rattle.rinda_rules.specs.Cases.{askings, least, outcome as outcome_spec};
@@ -8,7 +8,7 @@ ghost use Rattle.rinda_rules.specs.Steps.{matched as matched_spec, chooser as ch
 ghost use Rattle.rinda_rules.specs.Nothing.{waits_for as waits_for_spec, hears_nothing as hears_nothing_spec, finds_nothing as finds_nothing_spec};
 ghost use Rattle.rinda_rules.specs.Fixed.{picks_serve, picks_fit_case, case_with, after};
 ghost use Rattle.rinda_audit.specs.Finds.{seen};
-ghost use Rattle.rinda_audit.specs.Replays.{IsStep, TellsId, mints as mints_spec, case_after};
+ghost use Rattle.rinda_audit.specs.Replays.{IsStep, TellsId, HasRoom, case_after};
 
 use crate::equality::is_same_out;
 use crate::found::Found;
@@ -38,7 +38,12 @@ impl Replay {
         Ok(true)
     }
 
-    fn replay(&mut self, alloc: Global, turn: &Turn) -> Result<bool, AllocError>
+    /// Replays one turn as `step` does, for a caller that goes on only after a yes: it copies no space, and after a no
+    /// or an error nothing is said of the space.
+    ///
+    /// Errors: only want of memory.
+    /// Source: docs/SPACE.md, Phases and Nothing.
+    pub fn replay(&mut self, alloc: Global, turn: &Turn) -> Result<bool, AllocError>
         ensures yes { IfOk result (λ b. IsTrue b ↔ IsStep self.old turn.now) }
         ensures next { IfOk result (λ b. IsTrue b → self.new ≡ after self.old turn.now) }
     {
@@ -48,7 +53,7 @@ impl Replay {
             return Ok(false);
         }
         self.age(alloc)?;
-        if !tells_id(&turn.event, &turn.out, self.next) {
+        if !self.tells_id(&turn.event, &turn.out) {
             return Ok(false);
         }
         self.play(
@@ -69,7 +74,7 @@ impl Replay {
         out: &Out,
         picks: &[Pick],
     ) -> Result<bool, AllocError>
-        requires room { IsTrue (mints_spec event.now) → self.old.next < 2 ^ 64 }
+        requires room { HasRoom self.old event.now }
         ensures fits { IfOk result (λ b. IsTrue b ↔ (IsTrue (picks_fit_case self.old caller event.now (chooser_spec self.old caller event.now) picks.now) × (out.now ≡ (case_with self.old caller event.now (chooser_spec self.old caller event.now) picks.now).out))) }
         ensures after { IfOk result (λ b. IsTrue b → self.new ≡ (case_with self.old caller event.now (chooser_spec self.old caller event.now) picks.now).after) }
     {
@@ -89,7 +94,7 @@ impl Replay {
         out: &Out,
         picks: &[Pick],
     ) -> Result<bool, AllocError>
-        requires room { IsTrue (mints_spec event.now) → self.old.next < 2 ^ 64 }
+        requires room { HasRoom self.old event.now }
         ensures fits { IfOk result (λ b. IsTrue b ↔ (IsTrue (picks_fit_case self.old caller event.now (Some r.now) picks.now) × (out.now ≡ (case_with self.old caller event.now (Some r.now) picks.now).out))) }
         ensures after { IfOk result (λ b. IsTrue b → self.new ≡ (case_with self.old caller event.now (Some r.now) picks.now).after) }
     {
@@ -115,7 +120,7 @@ impl Replay {
         out: &Out,
         picks: &[Pick],
     ) -> Result<bool, AllocError>
-        requires room { IsTrue (mints_spec event.now) → self.old.next < 2 ^ 64 }
+        requires room { HasRoom self.old event.now }
         ensures fits { IfOk result (λ b. IsTrue b ↔ (IsTrue (picks_serve (aged_spec (outcome_spec self.old caller event.now choice.now).after) picks.now) × (out.now ≡ (outcome_spec self.old caller event.now choice.now).out))) }
         ensures after { IfOk result (λ b. IsTrue b → self.new ≡ (case_after self.old caller event.now choice.now picks.now).after) }
     {
@@ -135,7 +140,7 @@ impl Replay {
         choice: &Option<Entry>,
         out: &Out,
     ) -> Result<bool, AllocError>
-        requires room { IsTrue (mints_spec event.now) → self.old.next < 2 ^ 64 }
+        requires room { HasRoom self.old event.now }
         ensures out { IfOk result (λ b. IsTrue b ↔ (out.now ≡ (outcome_spec self.old caller event.now choice.now).out)) }
         ensures after { IfOk result (λ _. self.new ≡ (outcome_spec self.old caller event.now choice.now).after) }
     {
@@ -191,6 +196,7 @@ impl Replay {
             Event::Pop { id } => self.pops_nothing(alloc, *id),
             Event::NextAsk => self.asks_nobody(alloc),
             Event::Tick => Ok(true),
+            Event::Shut => Ok(self.shut),
             _ => Ok(false),
         }
     }
@@ -221,6 +227,42 @@ impl Replay {
         Ok(least.is_none())
     }
 
+    /// The answer has the next id where the event makes an object, or is Shut.
+    fn tells_id(&self, event: &Event, out: &Out) -> bool
+        ensures tells { IsTrue result ↔ TellsId self.now.shut self.now.next event.now out.now }
+        ensures room { IsTrue result → HasRoom self.now event.now }
+    {
+        match event {
+            Event::Write { value: _, lease: _ } => {
+                if self.shut {
+                    return matches!(out, Out::Shut);
+                }
+                matches!(out, Out::Entry(id) if *id as u128 == self.next)
+            }
+            Event::Reserve {
+                kind: _,
+                pattern: _,
+                lease: _,
+            } => {
+                if self.shut {
+                    return matches!(out, Out::Shut);
+                }
+                matches!(out, Out::Reserved(id) if *id as u128 == self.next)
+            }
+            Event::Notify {
+                event: _,
+                pattern: _,
+                lease: _,
+            } => {
+                if self.shut {
+                    return matches!(out, Out::Shut);
+                }
+                matches!(out, Out::Notifier(id) if *id as u128 == self.next)
+            }
+            _ => true,
+        }
+    }
+
     fn hears_nothing(&self, alloc: Global, found: &Found) -> Result<bool, AllocError>
         ensures { IfOk result (λ b. b ≡ hears_nothing_spec self.now (seen found.now)) }
     {
@@ -240,28 +282,5 @@ fn waits_for(caller: u64, found: &Found) -> bool
     match found {
         Found::TheRequest(r) => r.caller == caller && is_parked(&r.state),
         _ => false,
-    }
-}
-
-/// The answer has the next id, where the event makes an object.
-fn tells_id(event: &Event, out: &Out, next: u128) -> bool
-    ensures tells { IsTrue result ↔ TellsId event.now out.now next }
-    ensures room { IsTrue result → IsTrue (mints_spec event.now) → next < 2 ^ 64 }
-{
-    match event {
-        Event::Write { value: _, lease: _ } => {
-            matches!(out, Out::Entry(id) if *id as u128 == next)
-        }
-        Event::Reserve {
-            kind: _,
-            pattern: _,
-            lease: _,
-        } => matches!(out, Out::Reserved(id) if *id as u128 == next),
-        Event::Notify {
-            event: _,
-            pattern: _,
-            lease: _,
-        } => matches!(out, Out::Notifier(id) if *id as u128 == next),
-        _ => true,
     }
 }

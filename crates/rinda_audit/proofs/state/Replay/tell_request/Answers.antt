@@ -1,7 +1,8 @@
 use Rattle.std.proofs.Common.{◌≡◌, Option, OnOk, subst, ap, ◌∙◌}
 use Rattle.drb_tree.specs.declared.Remote.{Remote}
 use Rattle.rinda_rules.specs.Space.{Plain, renewer_of}
-use Rattle.rinda_rules.specs.Cases.{with_request, renewed_request}
+use Rattle.rinda_rules.specs.Phases.{with_request}
+use Rattle.rinda_rules.specs.Cases.{renewed_request}
 use Rattle.rinda_audit.proofs.state.Replay.tell_request.Goals as goal
 
 pub returns : goal.returns
