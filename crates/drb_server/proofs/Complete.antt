@@ -32,7 +32,7 @@ not_else : (limit : ℕ) (served : Served) (bytes left' : List ℕ) → IsWhole 
 not_else limit nothing bytes left' (inl e) h = h.0 e
 not_else limit nothing bytes left' (inr r) h = h.1 bytes [] r.0 r.1 (sym (append-nil bytes))
 not_else limit (request b value at) bytes left' (inl e) h = empty_or b h.1.1 h.1.0 (sym e ∙ h.1.2)
-not_else limit (request b value at) bytes left' (inr r) h = longer_than limit b bytes h.1.1 h.1.0 value.items r.0 h.0 r.1 h.1.2
+not_else limit (request b value at) bytes left' (inr r) h = longer_than limit b bytes h.1.1 h.1.0 value r.0 h.0 r.1 h.1.2
 
 rose_at_most : (n0 n : ℕ) → 2 ^ 64 - 1 ≤ n → Rose n0 n
 rose_at_most n0 n h = omega arith

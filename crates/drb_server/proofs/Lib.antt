@@ -9,3 +9,4 @@ pub mod Writing
 pub mod Words
 pub mod Serving
 pub mod Complete
+pub mod Fronts

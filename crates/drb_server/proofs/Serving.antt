@@ -6,7 +6,7 @@ use Rattle.std.specs.declared.result.Result.{Result}
 use Rattle.drb_tree.specs.declared.Tree.{Tree}
 use Rattle.drb_outside.specs.Told.{Told, Reads}
 use Rattle.drb_outside.specs.Telling.{told_as, told_same}
-use Rattle.rinda_tuple.specs.declared.tuple.Tuple.{Tuple}
+use Rattle.rinda_tuple.specs.declared.tuple.Tuple.TheVariants as tuple
 use Rattle.rinda_rules.specs.declared.turn.Turn.{Turn}
 use Rattle.rinda_rules.specs.Legal.{Legal}
 use Rattle.rinda_rules.proofs.First.{first_write_is_legal}
@@ -37,7 +37,7 @@ reads_none (Some x) = sym (append-nil x)
 
 -- A request is answered.
 
-made_first : (turns : List Turn) (caller at id : ℕ) (value : Tuple) → turns ≡ first_write caller at value id ∷ [] → id ≡ 1 → turns ≡ first_write caller at value 1 ∷ []
+made_first : (turns : List Turn) (caller at id : ℕ) (value : List Tree) → turns ≡ first_write caller at value id ∷ [] → id ≡ 1 → turns ≡ first_write caller at value 1 ∷ []
 made_first turns caller at id value e f = e ∙ ap (λ k. first_write caller at value k ∷ []) f
 
 whole_out : (end : SessionEnd) (ok : Bool) (bytes x y : List ℕ) → ok ≡ true → bytes ≡ first_reply → ((t : List ℕ) → Out end t t) → WritesAll ok bytes x y → (written : List ℕ) × (y ≡ x ++ written) × Out end (reply_text true (reference 1)) written
@@ -45,7 +45,7 @@ whole_out end ok bytes x y e f out h =
     let w : y ≡ x ++ bytes = subst (λ (b : Bool). WritesAll b bytes x y) e h in
     (reply_text true (reference 1), w ∙ ap (λ q. x ++ q) (f ∙ sym first_reply_is), out (reply_text true (reference 1)))
 
-pub answers_whole : (n m caller : ℕ) (end : SessionEnd) (value : Tuple) (turns : List Turn) (l l' g g' r r' : Option (List ℕ)) (at id : ℕ) (ok : Bool) (bytes : List ℕ) → turns ≡ first_write caller at value id ∷ [] → id ≡ 1 → Told l l' n (Behind end) → ok ≡ true → bytes ≡ first_reply → ((t : List ℕ) → Out end t t) → Told g g' m (WritesAll ok bytes) → Reads r r' at → Answers n m caller end value turns l l' g g' r r'
+pub answers_whole : (n m caller : ℕ) (end : SessionEnd) (value : List Tree) (turns : List Turn) (l l' g g' r r' : Option (List ℕ)) (at id : ℕ) (ok : Bool) (bytes : List ℕ) → turns ≡ first_write caller at value id ∷ [] → id ≡ 1 → Told l l' n (Behind end) → ok ≡ true → bytes ≡ first_reply → ((t : List ℕ) → Out end t t) → Told g g' m (WritesAll ok bytes) → Reads r r' at → Answers n m caller end value turns l l' g g' r r'
 answers_whole n m caller end value turns l l' g g' r r' at id ok bytes made one input ok_is same out output clock = record {
   at = at;
   made = made_first turns caller at id value made one;
@@ -59,7 +59,7 @@ cut_out ok bytes x y e f h =
     let w : (n : ℕ) × (y ≡ x ++ take n bytes) = subst (λ (b : Bool). WritesAll b bytes x y) e h in
     (take w.0 bytes, w.1, (w.0, ap (λ t. take w.0 t) (f ∙ sym first_reply_is)))
 
-pub answers_cut : (n m caller : ℕ) (value : Tuple) (turns : List Turn) (l g g' r r' : Option (List ℕ)) (at id : ℕ) (ok : Bool) (bytes : List ℕ) → turns ≡ first_write caller at value id ∷ [] → id ≡ 1 → ok ≡ false → bytes ≡ first_reply → Told g g' m (WritesAll ok bytes) → Reads r r' at → Answers n m caller WriteFault value turns l l g g' r r'
+pub answers_cut : (n m caller : ℕ) (value : List Tree) (turns : List Turn) (l g g' r r' : Option (List ℕ)) (at id : ℕ) (ok : Bool) (bytes : List ℕ) → turns ≡ first_write caller at value id ∷ [] → id ≡ 1 → ok ≡ false → bytes ≡ first_reply → Told g g' m (WritesAll ok bytes) → Reads r r' at → Answers n m caller WriteFault value turns l l g g' r r'
 answers_cut n m caller value turns l g g' r r' at id ok bytes made one off same output clock = record {
   at = at;
   made = made_first turns caller at id value made one;
@@ -80,7 +80,7 @@ behind_fault q f n l l' e h = told_as (ReadsEnd q) (Behind ReadFault) l l' n (λ
 
 -- A session.
 
-in_at : (limit : ℕ) (end : SessionEnd) (b x y z : List ℕ) (value : Tuple) (at : ℕ) → IsRequest limit b value.items → x ≡ b ++ y → Behind end y z → In limit end (request b value at) x z
+in_at : (limit : ℕ) (end : SessionEnd) (b x y z : List ℕ) (value : List Tree) (at : ℕ) → IsRequest limit b value → x ≡ b ++ y → Behind end y z → In limit end (request b value at) x z
 in_at limit Ended b x y z value at r e h = (r, e ∙ ap (λ q. b ++ q) h ∙ append-nil b)
 in_at limit ReadFault b x y z value at r e h = (r, e ∙ ap (λ q. b ++ q) (sym h))
 in_at limit WriteFault b x y z value at r e h = (r, e ∙ ap (λ q. b ++ q) (sym h))
@@ -93,7 +93,7 @@ front_of limit items (Some x) (Some y) n h = h.0
 front_of limit items (Some x) None n h = []
 front_of limit items None mid n h = []
 
-in_told : (limit n k : ℕ) (end : SessionEnd) (items : List Tree) (value : Tuple) (at : ℕ) (l mid l' : Option (List ℕ)) → value.items ≡ items → n ≤ k → (h : Told l mid n (ReadsFirst limit (Ok (first.Request items)))) → Told mid l' k (Behind end) → Told l l' k (In limit end (request (front_of limit items l mid n h) value at))
+in_told : (limit n k : ℕ) (end : SessionEnd) (items : List Tree) (value : List Tree) (at : ℕ) (l mid l' : Option (List ℕ)) → value ≡ items → n ≤ k → (h : Told l mid n (ReadsFirst limit (Ok (first.Request items)))) → Told mid l' k (Behind end) → Told l l' k (In limit end (request (front_of limit items l mid n h) value at))
 unfolding front_of
 in_told limit n k end items value at None None None same le h t = tt
 in_told limit n k end items value at None None (Some z) same le h t = absurd t
@@ -103,7 +103,7 @@ in_told limit n k end items value at (Some x) None (Some z) same le h t = absurd
 in_told limit n k end items value at (Some x) (Some y) None same le h t = t
 in_told limit n k end items value at (Some x) (Some y) (Some z) same le h t = in_at limit end h.0 x y z value at (subst (λ (vs : List Tree). IsRequest limit h.0 vs) (sym same) h.1) h.2 t
 
-pub serves_request : (limit n k m caller : ℕ) (end : SessionEnd) (items : List Tree) (value : Tuple) (turns : List Turn) (q : Result First ReadError) (f : First) (l mid l' g g' r r' : Option (List ℕ)) → q ≡ Ok f → f ≡ first.Request items → value.items ≡ items → n ≤ k → Told l mid n (ReadsFirst limit q) → Answers k m caller end value turns mid l' g g' r r' → Session limit k m caller end turns l l' g g' r r'
+pub serves_request : (limit n k m caller : ℕ) (end : SessionEnd) (items : List Tree) (value : List Tree) (turns : List Turn) (q : Result First ReadError) (f : First) (l mid l' g g' r r' : Option (List ℕ)) → q ≡ Ok f → f ≡ first.Request items → value ≡ items → n ≤ k → Told l mid n (ReadsFirst limit q) → Answers k m caller end value turns mid l' g g' r r' → Session limit k m caller end turns l l' g g' r r'
 serves_request limit n k m caller end items value turns q f l mid l' g g' r r' is that same le h a =
     let t : Told l mid n (ReadsFirst limit (Ok (first.Request items))) = subst (λ (f : First). Told l mid n (ReadsFirst limit (Ok f))) that (subst (λ (q : Result First ReadError). Told l mid n (ReadsFirst limit q)) is h) in
     record {
@@ -128,7 +128,7 @@ serves_nothing limit n m caller end turns l l' g r none input out = record {
 
 legal_turns : (served : Served) → Legal (turns_of 0 served)
 legal_turns nothing = tt
-legal_turns (request bytes value at) = first_write_is_legal 0 at value
+legal_turns (request bytes value at) = first_write_is_legal 0 at (tuple.List value)
 
 few_turns : (served : Served) → length (turns_of 0 served) ≤ 1
 few_turns nothing = omega arith

@@ -45,7 +45,7 @@ plain_body kind.Link at = refuses why.Version at
 abbrev pub plain_item : Grammar Tree
 plain_item = by_type plain_body
 
--- `[` and a long; the list is the first object
+-- `[` (91) and a long; the list is the first object
 abbrev pub list_head : Grammar ℕ
 list_head = do
   at ← here

@@ -7,6 +7,11 @@ use Rattle.drb_server.specs.declared.request.ReadError.{ReadError}
 use Rattle.drb_server.specs.declared.request.ReadError.TheVariants.{ReadFault, Memory}
 use Rattle.drb_server.specs.Requests.{IsRequest, NoRequest}
 
+-- what is left are the bytes that were there without those that were taken off their front
+pub record Taken (left left' : List ℕ) : Type 0 where
+  pub taken : List ℕ
+  pub front : left ≡ taken ++ left'
+
 -- these bytes were taken off the front, and added there
 pub record Moves (out out' left left' : List ℕ) : Type 0 where
   pub taken : List ℕ

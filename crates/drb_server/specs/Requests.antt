@@ -4,15 +4,16 @@ use Rattle.byteorder.specs.Endian.{big_number}
 use Rattle.drb_tree.specs.declared.Tree.{Tree}
 use Rattle.drb_server.specs.Plainly.{IsPlainDump}
 
--- the packet of nil: the front object, and no block
+-- the packet of nil, `0` (48): the front object, and no block
 abbrev pub nil_packet : List ℕ
 nil_packet = 0 ∷ 0 ∷ 0 ∷ 3 ∷ 4 ∷ 8 ∷ 48 ∷ []
 
--- the packet of the text `write` in US-ASCII: the method's name
+-- The packet of the text `write` in US-ASCII: the method's name. `I` (73), `"` (34), a length of 5 (10), w (119), r (114),
+-- i (105), t (116), e (101), one variable (6), `:` (58), a length of 1 (6), `E` (69), and `F` (70).
 abbrev pub name_packet : List ℕ
 name_packet = 0 ∷ 0 ∷ 0 ∷ 15 ∷ 4 ∷ 8 ∷ 73 ∷ 34 ∷ 10 ∷ 119 ∷ 114 ∷ 105 ∷ 116 ∷ 101 ∷ 6 ∷ 58 ∷ 6 ∷ 69 ∷ 70 ∷ []
 
--- the packet of 1: the count of arguments
+-- the packet of 1, `i` (105) and 6: the count of arguments
 abbrev pub one_packet : List ℕ
 one_packet = 0 ∷ 0 ∷ 0 ∷ 4 ∷ 4 ∷ 8 ∷ 105 ∷ 6 ∷ []
 

@@ -3,7 +3,6 @@ use Rattle.std.specs.Prelude.{◌≡◌, ℕ, ◌≤◌, ◌⊎◌, List, [], �
 use Rattle.std.specs.declared.option.Option.{Option}
 use Rattle.drb_tree.specs.declared.Tree.{Tree}
 use Rattle.drb_outside.specs.Told.{Told}
-use Rattle.rinda_tuple.specs.declared.tuple.Tuple.{Tuple}
 use Rattle.rinda_rules.specs.declared.turn.Turn.{Turn}
 use Rattle.rinda_rules.specs.Legal.{Legal}
 use Rattle.drb_server.specs.declared.session.SessionEnd.{SessionEnd}
@@ -13,20 +12,20 @@ use Rattle.drb_server.specs.Replies.{reply_text, reference}
 use Rattle.drb_server.specs.Clocks.{ReadsAll}
 use Rattle.drb_server.specs.Turns.{first_write}
 
--- What was served: nothing, or a request, by its bytes, its tuple and the reading of its turn.
+-- What was served: nothing, or a request, by its bytes, the items of its tuple and the reading of its turn.
 pub data Served : Type 0 where
   nothing : Served
-  request : List ℕ → Tuple → ℕ → Served
+  request : List ℕ → List Tree → ℕ → Served
 
 -- the turns that it made: the entry of the only write has the id 1
 abbrev pub turns_of : ℕ → Served → List Turn
 turns_of caller nothing = []
-turns_of caller (request bytes value at) = first_write caller at value 1 ∷ []
+turns_of caller (request bytes items at) = first_write caller at items 1 ∷ []
 
 -- the text of its reply: success, and the reference of the new entry
 abbrev pub text_of : Served → List ℕ
 text_of nothing = []
-text_of (request bytes value at) = reply_text true (reference 1)
+text_of (request bytes items at) = reply_text true (reference 1)
 
 -- What stands in the input at each end, and what of it is left.
 -- Ended: nothing, or the request and nothing more. ReadFault: no whole request stands unanswered in the bytes that were
@@ -34,15 +33,15 @@ text_of (request bytes value at) = reply_text true (reference 1)
 -- request, or a further byte stands after the request.
 abbrev pub In : ℕ → SessionEnd → Served → List ℕ → List ℕ → Type 0
 In limit Ended nothing left left' = left ≡ []
-In limit Ended (request bytes value at) left left' = IsRequest limit bytes value.items × (left ≡ bytes)
+In limit Ended (request bytes items at) left left' = IsRequest limit bytes items × (left ≡ bytes)
 In limit ReadFault nothing left left' = (taken : List ℕ) × (left ≡ taken ++ left') × NoRequest limit taken
-In limit ReadFault (request bytes value at) left left' = IsRequest limit bytes value.items × (left ≡ bytes ++ left')
+In limit ReadFault (request bytes items at) left left' = IsRequest limit bytes items × (left ≡ bytes ++ left')
 In limit WriteFault nothing left left' = ⊥
-In limit WriteFault (request bytes value at) left left' = IsRequest limit bytes value.items × (left ≡ bytes ++ left')
+In limit WriteFault (request bytes items at) left left' = IsRequest limit bytes items × (left ≡ bytes ++ left')
 In limit Memory nothing left left' = Unit {0}
-In limit Memory (request bytes value at) left left' = ⊥
+In limit Memory (request bytes items at) left left' = ⊥
 In limit NotBuilt nothing left left' = (left ≡ [] → ⊥) × NoRequest limit left
-In limit NotBuilt (request bytes value at) left left' = IsRequest limit bytes value.items × ((b : ℕ) × (rest : List ℕ) × (left ≡ bytes ++ (b ∷ rest)))
+In limit NotBuilt (request bytes items at) left left' = IsRequest limit bytes items × ((b : ℕ) × (rest : List ℕ) × (left ≡ bytes ++ (b ∷ rest)))
 
 -- how much of the reply was written: a front of it at WriteFault, and else all of it
 abbrev pub Out : SessionEnd → List ℕ → List ℕ → Type 0
@@ -70,9 +69,9 @@ Behind Memory left left' = ⊥
 Behind NotBuilt left left' = (b : ℕ) × (rest : List ℕ) × (left ≡ b ∷ rest)
 
 -- a request that was read is served: its turn, its reply, and what stands behind it
-pub record Answers (n m caller : ℕ) (end : SessionEnd) (value : Tuple) (turns : List Turn) (left left' given given' read read' : Option (List ℕ)) : Type 0 where
+pub record Answers (n m caller : ℕ) (end : SessionEnd) (items : List Tree) (turns : List Turn) (left left' given given' read read' : Option (List ℕ)) : Type 0 where
   pub at : ℕ
-  pub made : turns ≡ first_write caller at value 1 ∷ []
+  pub made : turns ≡ first_write caller at items 1 ∷ []
   pub input : Told left left' n (Behind end)
   pub output : Told given given' m (λ given given'. (written : List ℕ) × (given' ≡ given ++ written) × Out end (reply_text true (reference 1)) written)
   pub clock : ReadsAll read read' (at ∷ [])
@@ -99,9 +98,10 @@ pub record Runs (limit n m status : ℕ) (left left' given given' read read' : O
 abbrev pub IsWhole : ℕ → List ℕ → Type 0
 IsWhole limit bytes = (bytes ≡ []) ⊎ ((items : List Tree) × IsRequest limit bytes items)
 
--- the words are `stdio` alone
+-- `stdio`: s (115), t (116), d (100), i (105), o (111)
 abbrev pub stdio : List ℕ
 stdio = 115 ∷ 116 ∷ 100 ∷ 105 ∷ 111 ∷ []
 
+-- the words are `stdio` alone
 abbrev pub IsStdio : List (List ℕ) → Type 0
 IsStdio words = words ≡ stdio ∷ []

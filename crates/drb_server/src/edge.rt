@@ -18,6 +18,8 @@ impl<R: Read + Drop> Source for Reading<R> {
 
     ghost faults = { λ s. s.faults };
 
+    ghost holds = { λ _. 0 };
+
     ghost stays = { λ _. no_records };
 
     fn read(&mut self, buf: &mut [u8]) -> Result<usize, Failed> {
@@ -42,6 +44,10 @@ impl<W: Write + Drop> Sink for Writing<W> {
     ghost given = { λ _. None };
 
     ghost faults = { λ s. s.faults };
+
+    ghost holds = { λ _. 0 };
+
+    ghost stays = { λ _. no_records };
 
     fn write(&mut self, piece: &[u8]) -> Result<usize, Failed> {
         match self.inner.write(piece) {

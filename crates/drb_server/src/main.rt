@@ -43,7 +43,7 @@ fn main(rt: HostRuntime) -> ExitCode {
         faults: 0,
     };
     let mut clock = WallClock { rt: &rt };
-    let mut dialer = ScriptDialer::without_lines();
+    let mut dialer = ScriptDialer::new(Vec::new(rt.alloc()), Vec::new(rt.alloc()));
     let status = stdio_run(
         rt.alloc(),
         &words,

@@ -3,7 +3,7 @@ ghost use Rattle.std.specs.Prelude.{◌≡◌, ◌≤◌, ◌<◌, ◌^◌, ◌+
 ghost use Rattle.drb_tree.specs.declared.Tree.{Tree};
 ghost use Rattle.drb_outside.specs.Told.{Told, Rose};
 ghost use Rattle.drb_server.specs.Requests.{IsTail, before, nil_packet};
-ghost use Rattle.drb_server.specs.Reads.{Fills, ReadsFirst, ReadsMore, ReadsTail, ReadsEnd};
+ghost use Rattle.drb_server.specs.Reads.{Taken, Fills, ReadsFirst, ReadsMore, ReadsTail, ReadsEnd};
 ghost use Rattle.byteorder.specs.Endian.{big_number};
 
 use crate::plain::read_plain;
@@ -132,6 +132,7 @@ fn read_tail<S: Source>(
     requires sized { size ≡ big_number 4 (drop 34 header.now) }
     requires small { size < limit }
     ensures first { Told (S.left source.old) (S.left source.new) (S.faults source.new) (ReadsTail limit header.now result) }
+    ensures front { Told (S.left source.old) (S.left source.new) (S.faults source.new) Taken }
     ensures later { S.faults source.old ≤ S.faults source.new }
     ensures failed { IsErrOf result ReadError.ReadFault → Rose (S.faults source.old) (S.faults source.new) }
 {
@@ -155,6 +156,7 @@ fn read_tail<S: Source>(
 /// Source: Ruby's drb.rb, DRbMessage#recv_request; docs/SESSIONS.md, The first request.
 pub fn read_first<S: Source>(alloc: Global, source: &mut S, limit: u32) -> Result<First, ReadError>
     ensures first { Told (S.left source.old) (S.left source.new) (S.faults source.new) (ReadsFirst limit result) }
+    ensures front { Told (S.left source.old) (S.left source.new) (S.faults source.new) Taken }
     ensures later { S.faults source.old ≤ S.faults source.new }
     ensures failed { IsErrOf result ReadError.ReadFault → Rose (S.faults source.old) (S.faults source.new) }
 {
@@ -178,6 +180,7 @@ pub fn read_first<S: Source>(alloc: Global, source: &mut S, limit: u32) -> Resul
 /// Errors: `ReadFault` only where the source's own count of faults rose; nothing was taken then.
 pub fn is_at_end<S: Source>(source: &mut S) -> Result<bool, ReadError>
     ensures end { Told (S.left source.old) (S.left source.new) (S.faults source.new) (ReadsEnd result) }
+    ensures front { Told (S.left source.old) (S.left source.new) (S.faults source.new) Taken }
     ensures later { S.faults source.old ≤ S.faults source.new }
     ensures failed { OnErr result (Rose (S.faults source.old) (S.faults source.new)) }
 {

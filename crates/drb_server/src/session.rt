@@ -1,6 +1,7 @@
 // One session over standard input and output, and the whole run around it.
 ghost use Rattle.std.specs.Prelude.{◌≡◌, ◌≢◌, ◌↔◌, ◌≤◌, IsTrue, map, string_bytes, [], ℕ, List, Some, ◌⊎◌};
 ghost use Rattle.drb_outside.specs.Told.{Told, Rose};
+ghost use Rattle.drb_server.specs.Reads.{Taken};
 ghost use Rattle.drb_server.specs.Replies.{reply_text, reference};
 ghost use Rattle.drb_server.specs.Sessions.{Session, Answers, Runs, IsStdio, IsWhole, status_of, stdio};
 
@@ -9,7 +10,6 @@ use crate::space::Space;
 use crate::write::write_all;
 use drb_outside::{Clock, Dialer, Sink, Source};
 use drb_value::Value;
-use rinda_tuple::Tuple;
 use sqlite_items::Items;
 use std::alloc::Global;
 
@@ -51,17 +51,18 @@ fn answer<S: Source, K: Sink, C: Clock>(
     input: &mut S,
     output: &mut K,
     clock: &mut C,
-    value: Tuple,
+    items: Items<Value>,
 ) -> SessionEnd
-    requires { space.old.journal.list.items ≡ [] }
-    ensures answers { Answers (S.faults input.new) (K.faults output.new) CALLER result value space.new.journal.list.items (S.left input.old) (S.left input.new) (K.given output.old) (K.given output.new) (C.readings clock.old) (C.readings clock.new) }
+    requires { space.old.turns.items ≡ [] }
+    ensures answers { Answers (S.faults input.new) (K.faults output.new) CALLER result items space.new.turns.items (S.left input.old) (S.left input.new) (K.given output.old) (K.given output.new) (C.readings clock.old) (C.readings clock.new) }
+    ensures front { Told (S.left input.old) (S.left input.new) (S.faults input.new) Taken }
     ensures in_later { S.faults input.old ≤ S.faults input.new }
     ensures out_later { K.faults output.old ≤ K.faults output.new }
     ensures in_fault { result ≡ SessionEnd.ReadFault → Rose (S.faults input.old) (S.faults input.new) }
     ensures out_fault { result ≡ SessionEnd.WriteFault → Rose (K.faults output.old) (K.faults output.new) }
 {
     let at = clock.now();
-    space.write(alloc, CALLER, at, value);
+    space.write(alloc, CALLER, at, items);
     if !write_all(output, &FIRST_REPLY) {
         return SessionEnd::WriteFault;
     }
@@ -81,13 +82,14 @@ fn serve<S: Source, K: Sink, C: Clock>(
     output: &mut K,
     clock: &mut C,
 ) -> SessionEnd
-    requires { space.old.journal.list.items ≡ [] }
-    ensures session { Session limit (S.faults input.new) (K.faults output.new) CALLER result space.new.journal.list.items (S.left input.old) (S.left input.new) (K.given output.old) (K.given output.new) (C.readings clock.old) (C.readings clock.new) }
+    requires { space.old.turns.items ≡ [] }
+    ensures session { Session limit (S.faults input.new) (K.faults output.new) CALLER result space.new.turns.items (S.left input.old) (S.left input.new) (K.given output.old) (K.given output.new) (C.readings clock.old) (C.readings clock.new) }
+    ensures front { Told (S.left input.old) (S.left input.new) (S.faults input.new) Taken }
     ensures in_fault { result ≡ SessionEnd.ReadFault → Rose (S.faults input.old) (S.faults input.new) }
     ensures out_fault { result ≡ SessionEnd.WriteFault → Rose (K.faults output.old) (K.faults output.new) }
 {
     match read_first(alloc, input, limit) {
-        Ok(First::Request(items)) => answer(alloc, space, input, output, clock, Tuple { items }),
+        Ok(First::Request(items)) => answer(alloc, space, input, output, clock, items),
         Ok(First::End) => SessionEnd::Ended,
         Ok(First::Other) => SessionEnd::NotBuilt,
         Err(ReadError::ReadFault) => SessionEnd::ReadFault,
@@ -116,6 +118,7 @@ fn run_alone<S: Source, K: Sink, C: Clock>(
     clock: &mut C,
 ) -> u8
     ensures run { Runs LOAD_LIMIT (S.faults input.new) (K.faults output.new) result (S.left input.old) (S.left input.new) (K.given output.old) (K.given output.new) (C.readings clock.old) (C.readings clock.new) }
+    ensures front { Told (S.left input.old) (S.left input.new) (S.faults input.new) Taken }
     ensures other { result ≢ 1 }
     ensures in_fault { result ≡ 4 → Rose (S.faults input.old) (S.faults input.new) }
     ensures out_fault { result ≡ 5 → Rose (K.faults output.old) (K.faults output.new) }
@@ -148,6 +151,7 @@ fn is_word(word: &str) -> bool
 ///
 /// Reads one request `write` of a tuple off the input, makes its turn, and writes its reply, the reference of the new
 /// entry at `druby://127.0.0.1:8787`; then the input must end. The dialer is not used.
+/// At every status what is left of the input is what was there without a front.
 /// Status 0: the input was read to its end. 1: the words are not `stdio` alone; nothing is read or written.
 /// 4: the input failed. 5: the output failed, and a front of the reply was written. 7: out of memory; nothing was
 /// written. 9: the input is something that is not built yet; a reply before it stays written.
@@ -164,6 +168,7 @@ pub fn stdio_run<S: Source, K: Sink, C: Clock, D: Dialer>(
     ensures untouched { result.0 ≡ 1 → (input.new ≡ input.old) × (output.new ≡ output.old) × (clock.new ≡ clock.old) }
     ensures no_calls { dialer.new ≡ dialer.old }
     ensures run { result.0 ≢ 1 → Runs LOAD_LIMIT (S.faults input.new) (K.faults output.new) result.0 (S.left input.old) (S.left input.new) (K.given output.old) (K.given output.new) (C.readings clock.old) (C.readings clock.new) }
+    ensures front { Told (S.left input.old) (S.left input.new) (S.faults input.new) Taken }
     ensures in_fault { result.0 ≡ 4 → Rose (S.faults input.old) (S.faults input.new) }
     ensures out_fault { result.0 ≡ 5 → Rose (K.faults output.old) (K.faults output.new) }
     ensures complete { IsStdio (map (λ w. string_bytes w) words.now) → (bytes : List ℕ) → S.left input.old ≡ Some bytes → IsWhole LOAD_LIMIT bytes → (Rose (S.faults input.old) (S.faults input.new) → ⊥) → (Rose (K.faults output.old) (K.faults output.new) → ⊥) → (result.0 ≡ 0) ⊎ (result.0 ≡ 7) }

@@ -51,7 +51,7 @@ fn runs(rt: &HostRuntime, case: &Case) -> Result<bool, Fail> {
         case.writes_that_fail.to_vec(alloc)?,
     );
     let mut clock = ScriptClock::new([1000].to_vec(alloc)?);
-    let mut dialer = ScriptDialer::without_lines();
+    let mut dialer = ScriptDialer::new(Vec::new(alloc), Vec::new(alloc));
     let status = stdio_run(
         alloc,
         &words,
