@@ -20,7 +20,8 @@ living id None None None = None
 -- The ids are those of the space: the same next one, the same live ones, and the same last ones that ended.
 pub record IsIdsOf (s : Plain) (t : Ids) : Type 0 where
   pub next : t.next ≡ s.next
-  pub live : (id : ℕ) → live_at t id ≡ living id (request_at s id) (tuple_at s id) (notifier_at s id)
+  pub live : (id : ℕ) →
+      live_at t id ≡ living id (request_at s id) (tuple_at s id) (notifier_at s id)
   pub ended : t.ended ≡ s.ended
 
 -- what is known of an id for which the space finds that

@@ -37,7 +37,8 @@ looked_up t id = looked_among t id (live_at t id) (ended_at t id)
 
 -- the next id is given to an object of that kind
 abbrev pub minted : ObjectKind → Ids → Ids
-minted kind t = record t { next = t.next + 1; live = t.live ++ record { id = t.next; kind = kind } ∷ [] }
+minted kind t = record
+    t { next = t.next + 1; live = t.live ++ record { id = t.next; kind = kind } ∷ [] }
 
 abbrev pub ended_among : ℕ → Last → Ids → Option LiveId → Ids
 ended_among id last t None = t

@@ -50,7 +50,8 @@ with_all_live (l ∷ ls) es = with_all_live ls (insert_entry nat_cmp es l.id (st
 -- with these, which have ended
 abbrev pub with_all_ended : List Ended → List (ℕ × Standing) → List (ℕ × Standing)
 with_all_ended [] es = es
-with_all_ended (r ∷ rs) es = with_all_ended rs (insert_entry nat_cmp es r.id (standing.Ended r.kind r.last))
+with_all_ended (r ∷ rs) es =
+    with_all_ended rs (insert_entry nat_cmp es r.id (standing.Ended r.kind r.last))
 
 -- they were given out, of so many
 abbrev pub are_minted : ℕ → List (ℕ × Standing) → Bool
@@ -67,7 +68,8 @@ pub record IsTied (es : List (ℕ × Standing)) (ended : List Ended) : Type 0 wh
   pub once : are_distinct (λ e. e.id) ended ≡ true
 
 -- a whole table: where something is there, there is room for all that may be kept of what ended
-pub record IsTable (given : ℕ) (es : List (ℕ × Standing)) (ended : List Ended) (capacity : ℕ) : Type 0 where
+pub record IsTable (given : ℕ) (es : List (ℕ × Standing)) (ended : List Ended)
+    (capacity : ℕ) : Type 0 where
   pub standings : IsTied es ended
   pub minted : are_minted given es ≡ true
   pub few : length ended ≤ 4096

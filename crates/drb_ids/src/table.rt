@@ -32,9 +32,14 @@ impl Model for IdTable {
 
     ghost Value = { Ids };
 
-    ghost view = { λ t. record { next = t.given + 1; live = live_of t.objects.entries; ended = t.ended.items } };
+    ghost view = { λ t. record {
+      next = t.given + 1;
+      live = live_of t.objects.entries;
+      ended = t.ended.items;
+    } };
 
-    ghost invariant = { λ t. IsTable t.given t.objects.entries t.ended.items (deque_capacity t.ended) };
+    ghost invariant = { λ t.
+        IsTable t.given t.objects.entries t.ended.items (deque_capacity t.ended) };
 }
 
 impl IdTable {
@@ -178,7 +183,8 @@ fn live_kind(objects: &BTreeMap<u64, Standing>, id: u64) -> Option<ObjectKind>
 
 /// What is known of an id that names nothing, where so many were given out.
 fn unknown(given: u64, id: u64) -> Looked
-    ensures { result ≡ (if id == 0 || nat_le (given + 1) id then Looked.Never else Looked.Recycled) }
+    ensures { result ≡ (if id == 0 || nat_le (given + 1) id then Looked.Never
+        else Looked.Recycled) }
 {
     if id == 0 || given < id {
         Looked::Never
@@ -193,7 +199,8 @@ fn forget_oldest(objects: &mut BTreeMap<u64, Standing>, ended: &mut VecDeque<End
     requires few { length ended.old.items ≤ 4096 }
     ensures tied { IsTied objects.new.entries ended.new.items }
     ensures live { live_of objects.new.entries ≡ live_of objects.old.entries }
-    ensures minted { (given : ℕ) → are_minted given objects.old.entries ≡ true → are_minted given objects.new.entries ≡ true }
+    ensures minted { (given : ℕ) → are_minted given objects.old.entries ≡ true →
+        are_minted given objects.new.entries ≡ true }
     ensures ended { ended.new.items ≡ drop (length ended.old.items - 4095) ended.old.items }
     ensures capacity { deque_capacity ended.new ≡ deque_capacity ended.old }
 {

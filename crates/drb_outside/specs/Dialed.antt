@@ -13,7 +13,15 @@ abbrev pub record_by : Dialed → Line → Record
 record_by dialed.No l = refused_at None
 record_by dialed.Unkept l = refused_at None
 record_by dialed.Refused l = refused_at (Some (peer l.host.items l.port))
-record_by dialed.Made l = record { address = Some (peer l.host.items l.port); refused = false; sent = l.takes.items; received = take l.received l.gives.items; gives = drop l.received l.gives.items; up = false }
+record_by dialed.Made l =
+    record {
+      address = Some (peer l.host.items l.port);
+      refused = false;
+      sent = l.takes.items;
+      received = take l.received l.gives.items;
+      gives = drop l.received l.gives.items;
+      up = false;
+    }
 
 abbrev pub record_of : Line → Record
 record_of l = record_by l.dialed l
@@ -24,7 +32,8 @@ with_up up r = record r { up = up }
 
 -- the records of so many lines that were dialled, and of so many dials past the last line; whether the last call is up
 abbrev pub calls_by : List Line → ℕ → ℕ → Bool → List Record
-calls_by lines used past up = on_last (with_up up) (map record_of (take used lines) ++ replicate past (refused_at None))
+calls_by lines used past up =
+    on_last (with_up up) (map record_of (take used lines) ++ replicate past (refused_at None))
 
 abbrev pub calls_of : ScriptDialer → List Record
 calls_of d = calls_by d.lines.items d.used d.past d.up

@@ -48,15 +48,18 @@ impl<S: Source> Buffered<S> {
     /// Reads ahead, where nothing is held.
     fn refill(&mut self) -> Result<(), Failed>
         requires { self.old.end ≤ self.old.at }
-        ensures bytes { Told (in_front (held self.old.buffer.items self.old.at self.old.end) (S.left self.old.inner))
+        ensures bytes { Told (in_front (held self.old.buffer.items self.old.at self.old.end)
+            (S.left self.old.inner))
             (in_front (held self.new.buffer.items self.new.at self.new.end) (S.left self.new.inner))
             (S.faults self.new.inner) (λ left left'. left' ≡ left) }
         ensures ended { IfOk result (λ _.
-            Told (in_front (held self.old.buffer.items self.old.at self.old.end) (S.left self.old.inner))
+            Told (in_front (held self.old.buffer.items self.old.at self.old.end)
+            (S.left self.old.inner))
             (in_front (held self.new.buffer.items self.new.at self.new.end) (S.left self.new.inner))
             (S.faults self.new.inner)
             (λ left _. held self.new.buffer.items self.new.at self.new.end ≡ [] → left ≡ [])) }
-        ensures stays { Told (S.left self.old.inner) (S.left self.new.inner) (S.faults self.new.inner)
+        ensures stays { Told (S.left self.old.inner) (S.left self.new.inner)
+            (S.faults self.new.inner)
             (λ _ _. S.stays self.new.inner ≡ S.stays self.old.inner) }
         ensures holds { S.holds self.new.inner ≡ S.holds self.old.inner }
         ensures cause { HasCause (S.faults self.old.inner) (S.faults self.new.inner) result }
@@ -72,7 +75,8 @@ impl<S: Source> Buffered<S> {
         ensures bound { result ≤ length buf.new }
         ensures given { held self.old.buffer.items self.old.at self.old.end
             ≡ take result buf.new ++ held self.new.buffer.items self.new.at self.new.end }
-        ensures none { result ≡ 0 → 0 < length buf.new → held self.old.buffer.items self.old.at self.old.end ≡ [] }
+        ensures none { result ≡ 0 → 0 < length buf.new →
+            held self.old.buffer.items self.old.at self.old.end ≡ [] }
         ensures inner { self.new.inner ≡ self.old.inner }
     {
         let count = (self.end - self.at).min(buf.len());

@@ -104,7 +104,8 @@ impl Source for MemSource {
         ensures cause { HasCause self.old.faults self.new.faults result }
         ensures fails { IsErr result ↔ Contains self.old.fail (one_more self.old.calls) }
         ensures gives { IfOk result (λ n. n ≡
-            min (piece_of self.old.pieces self.old.calls (length buf.new)) (length self.old.bytes)) }
+            min (piece_of self.old.pieces self.old.calls (length buf.new))
+            (length self.old.bytes)) }
         ensures calls { self.new ≡ record self.old {
           bytes = self.new.bytes;
           calls = one_more self.old.calls;

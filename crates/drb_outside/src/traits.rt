@@ -35,8 +35,10 @@ pub trait Source {
     /// Source: Rust's `std::io::Read::read`.
     fn read(&mut self, buf: &mut [u8]) -> Result<usize, Failed>
         ensures bound { ReadsAtMost result buf.new }
-        ensures bytes { Told (left self.old) (left self.new) (faults self.new) (ReadTakes result buf.new) }
-        ensures stays { Told (left self.old) (left self.new) (faults self.new) (λ _ _. stays self.new ≡ stays self.old) }
+        ensures bytes { Told (left self.old) (left self.new) (faults self.new)
+            (ReadTakes result buf.new) }
+        ensures stays { Told (left self.old) (left self.new) (faults self.new)
+            (λ _ _. stays self.new ≡ stays self.old) }
         ensures holds { holds self.new ≡ holds self.old }
         ensures cause { HasCause (faults self.old) (faults self.new) result };
 }
@@ -61,8 +63,10 @@ pub trait Sink {
     fn write(&mut self, piece: &[u8]) -> Result<usize, Failed>
         ensures bound { WritesAtMost result piece.now }
         ensures some { 0 < length piece.now → IfOk result (λ n. 0 < n) }
-        ensures bytes { Told (given self.old) (given self.new) (faults self.new) (WriteGives result piece.now) }
-        ensures stays { Told (given self.old) (given self.new) (faults self.new) (λ _ _. stays self.new ≡ stays self.old) }
+        ensures bytes { Told (given self.old) (given self.new) (faults self.new)
+            (WriteGives result piece.now) }
+        ensures stays { Told (given self.old) (given self.new) (faults self.new)
+            (λ _ _. stays self.new ≡ stays self.old) }
         ensures holds { holds self.new ≡ holds self.old }
         ensures cause { HasCause (faults self.old) (faults self.new) result };
 }
@@ -106,7 +110,8 @@ pub trait Dialer {
     fn send(&mut self, piece: &[u8]) -> Result<usize, Failed>
         ensures bound { WritesAtMost result piece.now }
         ensures some { 0 < length piece.now → IfOk result (λ n. 0 < n) }
-        ensures calls { Told (calls self.old) (calls self.new) (faults self.new) (Sends piece.now result) }
+        ensures calls { Told (calls self.old) (calls self.new) (faults self.new)
+            (Sends piece.now result) }
         ensures cause { HasCause (faults self.old) (faults self.new) result };
 
     /// Receives the next bytes over the call that is up, as a source gives them.
@@ -114,11 +119,13 @@ pub trait Dialer {
     /// `Failed` received nothing, and is the answer where no call is up.
     fn receive(&mut self, buf: &mut [u8]) -> Result<usize, Failed>
         ensures bound { ReadsAtMost result buf.new }
-        ensures calls { Told (calls self.old) (calls self.new) (faults self.new) (Receives result buf.new) }
+        ensures calls { Told (calls self.old) (calls self.new) (faults self.new)
+            (Receives result buf.new) }
         ensures cause { HasCause (faults self.old) (faults self.new) result };
 
     /// Ends the call that is up, or does nothing.
     fn hang_up(&mut self)
-        ensures calls { Told (calls self.old) (calls self.new) (faults self.new) (λ old new. new ≡ hung_up old) }
+        ensures calls { Told (calls self.old) (calls self.new) (faults self.new)
+            (λ old new. new ≡ hung_up old) }
         ensures later { faults self.old ≤ faults self.new };
 }

@@ -37,6 +37,10 @@ cut limits bytes = cut_in (length bytes) limits bytes
 
 -- the cut goes on over what is behind a request, and ends where none stands first
 pub record Cuts (limits : Limits) (bytes : List ℕ) : Type 0 where
-  pub request : (r : Request) (rest : List ℕ) → next_request limits bytes ≡ holds r rest → cut limits bytes ≡ in_front r (cut limits rest)
-  pub end : next_request limits bytes ≡ ended → cut limits bytes ≡ record { requests = []; ending = at_end }
-  pub refusal : (why : PacketRefusal) (rest : List ℕ) → next_request limits bytes ≡ refused why rest → cut limits bytes ≡ record { requests = []; ending = at_refusal why }
+  pub request : (r : Request) (rest : List ℕ) → next_request limits bytes ≡ holds r rest →
+      cut limits bytes ≡ in_front r (cut limits rest)
+  pub end : next_request limits bytes ≡ ended →
+      cut limits bytes ≡ record { requests = []; ending = at_end }
+  pub refusal : (why : PacketRefusal) (rest : List ℕ) →
+      next_request limits bytes ≡ refused why rest →
+      cut limits bytes ≡ record { requests = []; ending = at_refusal why }

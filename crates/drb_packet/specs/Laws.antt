@@ -15,7 +15,8 @@ followed (refused why rest) more = refused why (rest ++ more)
 
 -- what bytes decide, they decide whatever follows them
 abbrev pub AnyMore : {A : Type 0} → Parser A → Type 0
-AnyMore p = (bytes more : List ℕ) → is_open (p bytes) ≡ false → p (bytes ++ more) ≡ followed (p bytes) more
+AnyMore p = (bytes more : List ℕ) → is_open (p bytes) ≡ false →
+    p (bytes ++ more) ≡ followed (p bytes) more
 
 -- what stands first, whatever is behind it
 abbrev pub first : {A : Type 0} → Parsed A → Parsed A
@@ -25,11 +26,14 @@ first (refused why rest) = refused why []
 
 -- where bytes don't decide what stands first, something else stands first with some further bytes behind them
 abbrev pub Undecided : {A : Type 0} → Parser A → Type 0
-Undecided p = (bytes : List ℕ) → is_open (p bytes) ≡ true → (more : List ℕ) × (first (p (bytes ++ more)) ≡ first (p bytes) → ⊥)
+Undecided p = (bytes : List ℕ) → is_open (p bytes) ≡ true →
+    (more : List ℕ) × (first (p (bytes ++ more)) ≡ first (p bytes) → ⊥)
 
 -- what is behind is the end of the bytes
 abbrev pub Behind : {A : Type 0} → Parser A → Type 0
-Behind {A = A} p = (bytes rest : List ℕ) → (((a : A) → p bytes ≡ holds a rest → (b : List ℕ) × (bytes ≡ b ++ rest)) × ((why : PacketRefusal) → p bytes ≡ refused why rest → (b : List ℕ) × (bytes ≡ b ++ rest)))
+Behind {A = A} p = (bytes rest : List ℕ) →
+    (((a : A) → p bytes ≡ holds a rest → (b : List ℕ) × (bytes ≡ b ++ rest))
+    × ((why : PacketRefusal) → p bytes ≡ refused why rest → (b : List ℕ) × (bytes ≡ b ++ rest)))
 
 -- nothing stands first exactly in no bytes
 abbrev pub EndsAtEnd : {A : Type 0} → Parser A → Type 0

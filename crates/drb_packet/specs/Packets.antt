@@ -21,7 +21,8 @@ size load (a ∷ b ∷ c ∷ d ∷ rest) = small load (big_number 4 (a ∷ b ∷
 
 -- a body: so many bytes
 abbrev pub packet_body : ℕ → Parser (List ℕ)
-packet_body n bytes = if nat_lt (length bytes) n then refused PrematureBody [] else holds (take n bytes) (drop n bytes)
+packet_body n bytes = if nat_lt (length bytes) n then refused PrematureBody []
+    else holds (take n bytes) (drop n bytes)
 
 -- what a body is read as: the value that it begins with a dump of, or the refusal of that dump
 abbrev pub dumped : Read Tree → Parser Tree

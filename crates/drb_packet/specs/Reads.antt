@@ -19,13 +19,17 @@ use Rattle.drb_packet.specs.Replies.{next_reply}
 -- first. Want of memory says nothing.
 abbrev pub SaysRequest : Limits → Result Inbound PacketError → List ℕ → List ℕ → List ℕ → Type 0
 SaysRequest limits (Ok inbound.End) taken left left' = (left ≡ []) × (left' ≡ [])
-SaysRequest limits (Ok (inbound.Request request)) taken left left' = next_request limits left ≡ holds request left'
-SaysRequest limits (Ok (inbound.Refused why)) taken left left' = next_request limits left ≡ refused why left'
-SaysRequest limits (Err fault.ReadFault) taken left left' = is_open (next_request limits taken) ≡ true
+SaysRequest limits (Ok (inbound.Request request)) taken left left' =
+    next_request limits left ≡ holds request left'
+SaysRequest limits (Ok (inbound.Refused why)) taken left left' =
+    next_request limits left ≡ refused why left'
+SaysRequest limits (Err fault.ReadFault) taken left left' =
+    is_open (next_request limits taken) ≡ true
 SaysRequest limits (Err fault.Memory) taken left left' = Unit {0}
 
 -- At every answer what is left are the bytes that were there without those that were taken off their front.
-pub record ReadsRequest (limits : Limits) (r : Result Inbound PacketError) (left left' : List ℕ) : Type 0 where
+pub record ReadsRequest (limits : Limits) (r : Result Inbound PacketError)
+    (left left' : List ℕ) : Type 0 where
   pub taken : List ℕ
   pub front : left ≡ taken ++ left'
   pub says : SaysRequest limits r taken left left'
@@ -33,26 +37,32 @@ pub record ReadsRequest (limits : Limits) (r : Result Inbound PacketError) (left
 -- the same of a reply
 abbrev pub SaysReply : Limits → Result Reply PacketError → List ℕ → List ℕ → List ℕ → Type 0
 SaysReply limits (Ok reply.End) taken left left' = (left ≡ []) × (left' ≡ [])
-SaysReply limits (Ok (reply.Reply ok value)) taken left left' = next_reply limits.load left ≡ holds (ok, value) left'
-SaysReply limits (Ok (reply.Refused why)) taken left left' = next_reply limits.load left ≡ refused why left'
-SaysReply limits (Err fault.ReadFault) taken left left' = is_open (next_reply limits.load taken) ≡ true
+SaysReply limits (Ok (reply.Reply ok value)) taken left left' =
+    next_reply limits.load left ≡ holds (ok, value) left'
+SaysReply limits (Ok (reply.Refused why)) taken left left' =
+    next_reply limits.load left ≡ refused why left'
+SaysReply limits (Err fault.ReadFault) taken left left' =
+    is_open (next_reply limits.load taken) ≡ true
 SaysReply limits (Err fault.Memory) taken left left' = Unit {0}
 
-pub record ReadsReply (limits : Limits) (r : Result Reply PacketError) (left left' : List ℕ) : Type 0 where
+pub record ReadsReply (limits : Limits) (r : Result Reply PacketError) (left left' : List ℕ) : Type
+    0 where
   pub taken : List ℕ
   pub front : left ≡ taken ++ left'
   pub says : SaysReply limits r taken left left'
 
 -- exactly these bytes were taken, and whatever follows them, this stands first
 abbrev pub Takes : {A : Type 0} → Parser A → A → List ℕ → List ℕ → Type 0
-Takes p a left left' = (taken : List ℕ) × (left ≡ taken ++ left') × ((more : List ℕ) → p (taken ++ more) ≡ holds a more)
+Takes p a left left' = (taken : List ℕ) × (left ≡ taken ++ left')
+    × ((more : List ℕ) → p (taken ++ more) ≡ holds a more)
 
 -- A step of a reading. Want of memory says only that a front was taken.
 abbrev pub Parses : {A : Type 0} → Parser A → Result A Stop → List ℕ → List ℕ → Type 0
 Parses p (Ok a) left left' = Takes p a left left'
 Parses p (Err stop.End) left left' = (p left ≡ ended) × (left' ≡ [])
 Parses p (Err (stop.Refused why)) left left' = p left ≡ refused why left'
-Parses p (Err stop.ReadFault) left left' = (taken : List ℕ) × (left ≡ taken ++ left') × (is_open (p taken) ≡ true)
+Parses p (Err stop.ReadFault) left left' = (taken : List ℕ) × (left ≡ taken ++ left')
+    × (is_open (p taken) ≡ true)
 Parses p (Err stop.Memory) left left' = (taken : List ℕ) × (left ≡ taken ++ left')
 
 -- what a step answers without a read
@@ -80,6 +90,7 @@ Filled want (Ok true) out' left' = length out' ≡ want
 Filled want (Ok false) out' left' = (length out' < want) × (left' ≡ [])
 Filled want (Err e) out' left' = length out' < want
 
-pub record Fills (want : ℕ) (r : Result Bool PacketError) (out out' left left' : List ℕ) : Type 0 where
-  pub moves : Moves out out' left left'
-  pub filled : Filled want r out' left'
+pub record Fills (want : ℕ) (r : Result Bool PacketError) (out out' left left' : List ℕ) : Type 0
+  where
+    pub moves : Moves out out' left left'
+    pub filled : Filled want r out' left'

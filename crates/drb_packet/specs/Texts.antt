@@ -26,7 +26,8 @@ reply_text ok value = packet_text (spelled (bool ok)) ++ packet_text (spelled va
 
 -- what a request says: whom it calls, the method's name in US-ASCII, the count of arguments, the arguments, and no block
 abbrev pub ask_values : RefId → List ℕ → List Tree → List Tree
-ask_values to name args = id_tree to ∷ text name Ascii ∷ int (pos (length args)) ∷ (args ++ nil ∷ [])
+ask_values to name args =
+    id_tree to ∷ text name Ascii ∷ int (pos (length args)) ∷ (args ++ nil ∷ [])
 
 -- the text of a request
 abbrev pub ask_text : RefId → List ℕ → List Tree → List ℕ

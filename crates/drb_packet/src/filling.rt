@@ -22,7 +22,8 @@ fn read_more<S: Source>(
         (ReadsMore result out.old.items out.new.items) }
     ensures bound { IfOk result (λ n. (n ≤ room) × (vec_len out.new ≡ vec_len out.old + n)) }
     ensures same { OnErr result (vec_len out.new ≡ vec_len out.old) }
-    ensures failed { IsErrOf result PacketError.ReadFault → Rose (S.faults source.old) (S.faults source.new) }
+    ensures failed { IsErrOf result PacketError.ReadFault →
+        Rose (S.faults source.old) (S.faults source.new) }
 {
     let room = room.min(CHUNK);
     if out.reserve(room).is_err() {
@@ -46,7 +47,8 @@ pub fn fill<S: Source>(source: &mut S, out: &mut Vec<u8>, want: usize) -> Result
     ensures source { ChangesBytes S.left S.stays S.holds S.faults source.old source.new
         (Fills want result out.old.items out.new.items) }
     ensures full { IfOk result (λ b. IsTrue b → vec_len out.new ≡ want) }
-    ensures failed { IsErrOf result PacketError.ReadFault → Rose (S.faults source.old) (S.faults source.new) }
+    ensures failed { IsErrOf result PacketError.ReadFault →
+        Rose (S.faults source.old) (S.faults source.new) }
 {
     while out.len() < want {
         let count = read_more(source, out, want - out.len())?;

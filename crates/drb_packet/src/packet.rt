@@ -20,7 +20,8 @@ use std::alloc::Global;
 fn read_size<S: Source>(alloc: Global, source: &mut S, load: u32) -> Result<u32, Stop>
     ensures source { ChangesBytes S.left S.stays S.holds S.faults source.old source.new
         (Parses (size load) result) }
-    ensures failed { IsErrOf result Stop.ReadFault → Rose (S.faults source.old) (S.faults source.new) }
+    ensures failed { IsErrOf result Stop.ReadFault →
+        Rose (S.faults source.old) (S.faults source.new) }
 {
     let mut header = Vec::new(alloc);
     if !fill(source, &mut header, 4)? {
@@ -53,7 +54,8 @@ fn value_in(alloc: Global, body: &[u8]) -> Result<Value, Stop>
 fn read_body<S: Source>(alloc: Global, source: &mut S, size: u32) -> Result<Value, Stop>
     ensures source { ChangesBytes S.left S.stays S.holds S.faults source.old source.new
         (Parses (loaded size) result) }
-    ensures failed { IsErrOf result Stop.ReadFault → Rose (S.faults source.old) (S.faults source.new) }
+    ensures failed { IsErrOf result Stop.ReadFault →
+        Rose (S.faults source.old) (S.faults source.new) }
 {
     let mut body = Vec::new(alloc);
     if !fill(source, &mut body, size as usize)? {
@@ -66,7 +68,8 @@ fn read_body<S: Source>(alloc: Global, source: &mut S, size: u32) -> Result<Valu
 pub fn read_packet<S: Source>(alloc: Global, source: &mut S, load: u32) -> Result<Value, Stop>
     ensures source { ChangesBytes S.left S.stays S.holds S.faults source.old source.new
         (Parses (packet load) result) }
-    ensures failed { IsErrOf result Stop.ReadFault → Rose (S.faults source.old) (S.faults source.new) }
+    ensures failed { IsErrOf result Stop.ReadFault →
+        Rose (S.faults source.old) (S.faults source.new) }
 {
     let size = read_size(alloc, source, load)?;
     read_body(alloc, source, size)
@@ -76,7 +79,8 @@ pub fn read_packet<S: Source>(alloc: Global, source: &mut S, load: u32) -> Resul
 pub fn read_further<S: Source>(alloc: Global, source: &mut S, load: u32) -> Result<Value, Stop>
     ensures source { ChangesBytes S.left S.stays S.holds S.faults source.old source.new
         (Parses (further load) result) }
-    ensures failed { IsErrOf result Stop.ReadFault → Rose (S.faults source.old) (S.faults source.new) }
+    ensures failed { IsErrOf result Stop.ReadFault →
+        Rose (S.faults source.old) (S.faults source.new) }
 {
     match read_packet(alloc, source, load) {
         Err(Stop::End) => Err(Stop::Refused(PacketRefusal::CutBetween)),

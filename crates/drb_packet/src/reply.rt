@@ -40,7 +40,8 @@ fn truth_in(node: &Node) -> bool
 fn read_both<S: Source>(alloc: Global, source: &mut S, load: u32) -> Result<(bool, Value), Stop>
     ensures source { ChangesBytes S.left S.stays S.holds S.faults source.old source.new
         (Parses (next_reply load) result) }
-    ensures failed { IsErrOf result Stop.ReadFault → Rose (S.faults source.old) (S.faults source.new) }
+    ensures failed { IsErrOf result Stop.ReadFault →
+        Rose (S.faults source.old) (S.faults source.new) }
 {
     let success = read_packet(alloc, source, load)?;
     let result = read_further(alloc, source, load)?;
@@ -61,7 +62,8 @@ pub fn read_reply<S: Source>(
 ) -> Result<Reply, PacketError>
     ensures source { ChangesBytes S.left S.stays S.holds S.faults source.old source.new
         (ReadsReply limits.now result) }
-    ensures failed { IsErrOf result PacketError.ReadFault → Rose (S.faults source.old) (S.faults source.new) }
+    ensures failed { IsErrOf result PacketError.ReadFault →
+        Rose (S.faults source.old) (S.faults source.new) }
 {
     match read_both(alloc, source, limits.load) {
         Ok((ok, value)) => Ok(Reply::Reply(ok, value)),

@@ -87,7 +87,8 @@ fn block_in(node: Node) -> Result<Option<Remote>, Stop>
 fn read_name<S: Source>(alloc: Global, source: &mut S, load: u32) -> Result<Text, Stop>
     ensures source { ChangesBytes S.left S.stays S.holds S.faults source.old source.new
         (Parses (method_name load) result) }
-    ensures failed { IsErrOf result Stop.ReadFault → Rose (S.faults source.old) (S.faults source.new) }
+    ensures failed { IsErrOf result Stop.ReadFault →
+        Rose (S.faults source.old) (S.faults source.new) }
 {
     let Value { node } = read_further(alloc, source, load)?;
     name_in(node)
@@ -97,7 +98,8 @@ fn read_name<S: Source>(alloc: Global, source: &mut S, load: u32) -> Result<Text
 fn read_count<S: Source>(alloc: Global, source: &mut S, limits: &Limits) -> Result<u32, Stop>
     ensures source { ChangesBytes S.left S.stays S.holds S.faults source.old source.new
         (Parses (argument_count limits.now) result) }
-    ensures failed { IsErrOf result Stop.ReadFault → Rose (S.faults source.old) (S.faults source.new) }
+    ensures failed { IsErrOf result Stop.ReadFault →
+        Rose (S.faults source.old) (S.faults source.new) }
 {
     let Value { node } = read_further(alloc, source, limits.load)?;
     count_in(node, limits.args)
@@ -112,7 +114,8 @@ fn read_arguments<S: Source>(
 ) -> Result<Items<Value>, Stop>
     ensures source { ChangesBytes S.left S.stays S.holds S.faults source.old source.new
         (Parses (arguments load count) result) }
-    ensures failed { IsErrOf result Stop.ReadFault → Rose (S.faults source.old) (S.faults source.new) }
+    ensures failed { IsErrOf result Stop.ReadFault →
+        Rose (S.faults source.old) (S.faults source.new) }
 {
     let count = count as usize;
     let mut arguments = Items::new(alloc);
@@ -127,7 +130,8 @@ fn read_arguments<S: Source>(
 fn read_block<S: Source>(alloc: Global, source: &mut S, load: u32) -> Result<Option<Remote>, Stop>
     ensures source { ChangesBytes S.left S.stays S.holds S.faults source.old source.new
         (Parses (block load) result) }
-    ensures failed { IsErrOf result Stop.ReadFault → Rose (S.faults source.old) (S.faults source.new) }
+    ensures failed { IsErrOf result Stop.ReadFault →
+        Rose (S.faults source.old) (S.faults source.new) }
 {
     let Value { node } = read_further(alloc, source, load)?;
     block_in(node)
@@ -143,7 +147,8 @@ fn read_call<S: Source>(
 ) -> Result<Request, Stop>
     ensures source { ChangesBytes S.left S.stays S.holds S.faults source.old source.new
         (Parses (after_name limits.now reference name) result) }
-    ensures failed { IsErrOf result Stop.ReadFault → Rose (S.faults source.old) (S.faults source.new) }
+    ensures failed { IsErrOf result Stop.ReadFault →
+        Rose (S.faults source.old) (S.faults source.new) }
 {
     let count = read_count(alloc, source, limits)?;
     let args = read_arguments(alloc, source, limits.load, count)?;
@@ -160,7 +165,8 @@ fn read_call<S: Source>(
 fn read_packets<S: Source>(alloc: Global, source: &mut S, limits: &Limits) -> Result<Request, Stop>
     ensures source { ChangesBytes S.left S.stays S.holds S.faults source.old source.new
         (Parses (next_request limits.now) result) }
-    ensures failed { IsErrOf result Stop.ReadFault → Rose (S.faults source.old) (S.faults source.new) }
+    ensures failed { IsErrOf result Stop.ReadFault →
+        Rose (S.faults source.old) (S.faults source.new) }
 {
     let reference = read_packet(alloc, source, limits.load)?;
     let name = read_name(alloc, source, limits.load)?;
@@ -181,7 +187,8 @@ pub fn read_request<S: Source>(
 ) -> Result<Inbound, PacketError>
     ensures source { ChangesBytes S.left S.stays S.holds S.faults source.old source.new
         (ReadsRequest limits.now result) }
-    ensures failed { IsErrOf result PacketError.ReadFault → Rose (S.faults source.old) (S.faults source.new) }
+    ensures failed { IsErrOf result PacketError.ReadFault →
+        Rose (S.faults source.old) (S.faults source.new) }
 {
     match read_packets(alloc, source, limits) {
         Ok(request) => Ok(Inbound::Request(request)),

@@ -76,7 +76,8 @@ fn put_name(name: &[u8], out: &mut Vec<u8>) -> Result<(), WriteError>
 
 /// Appends the packets that stand before the arguments.
 fn put_call(to: &RefId, name: &[u8], count: usize, out: &mut Vec<u8>) -> Result<(), WriteError>
-    ensures { Puts (id_tree to.now ∷ text name.now Ascii ∷ int (pos count) ∷ []) result out.old.items out.new.items }
+    ensures { Puts (id_tree to.now ∷ text name.now Ascii ∷ int (pos count) ∷ []) result
+        out.old.items out.new.items }
 {
     put_reference(to, out)?;
     put_name(name, out)?;
@@ -107,9 +108,11 @@ pub fn write_request(
 ) -> Result<(), WriteError>
     requires ascii { IsTrue (all_ascii name.now) }
     requires few { length args.now ≤ 256 }
-    ensures written { OnOk result (out.new.items ≡ out.old.items ++ ask_text to.now name.now args.now) }
+    ensures written { OnOk result
+        (out.new.items ≡ out.old.items ++ ask_text to.now name.now args.now) }
     ensures within { OnOk result (AllShort (ask_values to.now name.now args.now)) }
-    ensures too_long { result ≡ Err WriteError.TooLong → SomeLong (ask_values to.now name.now args.now) }
+    ensures too_long { result ≡ Err WriteError.TooLong →
+        SomeLong (ask_values to.now name.now args.now) }
     ensures unchanged { OnErr result (out.new.items ≡ out.old.items) }
 {
     let start = out.len();

@@ -29,17 +29,20 @@ Filled want (Ok true) out' left' = length out' ≡ want
 Filled want (Ok false) out' left' = (length out' < want) × (left' ≡ [])
 Filled want (Err e) out' left' = length out' < want
 
-pub record Fills (want : ℕ) (r : Result Bool ReadError) (out out' left left' : List ℕ) : Type 0 where
-  pub moves : Moves out out' left left'
-  pub filled : Filled want r out' left'
+pub record Fills (want : ℕ) (r : Result Bool ReadError) (out out' left left' : List ℕ) : Type 0
+  where
+    pub moves : Moves out out' left left'
+    pub filled : Filled want r out' left'
 
 -- The answer, of the bytes before and after. End: there were none. A request: exactly its bytes were taken. Other: there
 -- were some, and no front of them is a request. After a read fault no front of the bytes that were taken is one.
 abbrev pub ReadsFirst : ℕ → Result First ReadError → List ℕ → List ℕ → Type 0
 ReadsFirst limit (Ok first.End) left left' = (left ≡ []) × (left' ≡ [])
-ReadsFirst limit (Ok (first.Request items)) left left' = (b : List ℕ) × IsRequest limit b items × (left ≡ b ++ left')
+ReadsFirst limit (Ok (first.Request items)) left left' = (b : List ℕ) × IsRequest limit b items
+    × (left ≡ b ++ left')
 ReadsFirst limit (Ok first.Other) left left' = (left ≡ [] → ⊥) × NoRequest limit left
-ReadsFirst limit (Err ReadFault) left left' = (taken : List ℕ) × (left ≡ taken ++ left') × NoRequest limit taken
+ReadsFirst limit (Err ReadFault) left left' = (taken : List ℕ) × (left ≡ taken ++ left')
+    × NoRequest limit taken
 ReadsFirst limit (Err Memory) left left' = Unit {0}
 
 -- the same, of the bytes behind a header that was taken before

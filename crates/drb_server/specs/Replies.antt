@@ -17,4 +17,8 @@ reply_text ok value = packet (spelled (bool ok)) ++ packet (spelled value)
 
 -- the reference of an object of the server that stands at the uri `druby://127.0.0.1:8787`
 abbrev pub reference : ℕ → Tree
-reference id = remote (record { uri = record { bytes = codes "druby://127.0.0.1:8787"; code = Utf8 }; id = Number (pos id) })
+reference id = remote
+    (record {
+      uri = record { bytes = codes "druby://127.0.0.1:8787"; code = Utf8 };
+      id = Number (pos id);
+    })

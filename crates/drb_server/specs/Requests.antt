@@ -11,7 +11,8 @@ nil_packet = 0 ∷ 0 ∷ 0 ∷ 3 ∷ 4 ∷ 8 ∷ 48 ∷ []
 -- The packet of the text `write` in US-ASCII: the method's name. `I` (73), `"` (34), a length of 5 (10), w (119), r (114),
 -- i (105), t (116), e (101), one variable (6), `:` (58), a length of 1 (6), `E` (69), and `F` (70).
 abbrev pub name_packet : List ℕ
-name_packet = 0 ∷ 0 ∷ 0 ∷ 15 ∷ 4 ∷ 8 ∷ 73 ∷ 34 ∷ 10 ∷ 119 ∷ 114 ∷ 105 ∷ 116 ∷ 101 ∷ 6 ∷ 58 ∷ 6 ∷ 69 ∷ 70 ∷ []
+name_packet = 0 ∷ 0 ∷ 0 ∷ 15 ∷ 4 ∷ 8 ∷ 73 ∷ 34 ∷ 10 ∷ 119 ∷ 114 ∷ 105 ∷ 116 ∷ 101 ∷ 6 ∷ 58 ∷ 6 ∷ 69
+    ∷ 70 ∷ []
 
 -- the packet of 1, `i` (105) and 6: the count of arguments
 abbrev pub one_packet : List ℕ
@@ -34,7 +35,8 @@ pub record IsRequest (limit : ℕ) (bytes : List ℕ) (items : List Tree) : Type
 
 -- no front of the bytes is such a request
 abbrev pub NoRequest : ℕ → List ℕ → Type 0
-NoRequest limit bytes = (b rest : List ℕ) (items : List Tree) → IsRequest limit b items → bytes ≡ b ++ rest → ⊥
+NoRequest limit bytes = (b rest : List ℕ) (items : List Tree) → IsRequest limit b items →
+    bytes ≡ b ++ rest → ⊥
 
 -- what follows the size: the tuple's body of that size, and the packet of nil; and what stood before the size
 pub record IsTail (front : List ℕ) (size : ℕ) (tail : List ℕ) (items : List Tree) : Type 0 where

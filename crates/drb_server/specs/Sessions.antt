@@ -34,14 +34,18 @@ text_of (request bytes items at) = reply_text true (reference 1)
 abbrev pub In : ℕ → SessionEnd → Served → List ℕ → List ℕ → Type 0
 In limit Ended nothing left left' = left ≡ []
 In limit Ended (request bytes items at) left left' = IsRequest limit bytes items × (left ≡ bytes)
-In limit ReadFault nothing left left' = (taken : List ℕ) × (left ≡ taken ++ left') × NoRequest limit taken
-In limit ReadFault (request bytes items at) left left' = IsRequest limit bytes items × (left ≡ bytes ++ left')
+In limit ReadFault nothing left left' = (taken : List ℕ) × (left ≡ taken ++ left')
+    × NoRequest limit taken
+In limit ReadFault (request bytes items at) left left' = IsRequest limit bytes items
+    × (left ≡ bytes ++ left')
 In limit WriteFault nothing left left' = ⊥
-In limit WriteFault (request bytes items at) left left' = IsRequest limit bytes items × (left ≡ bytes ++ left')
+In limit WriteFault (request bytes items at) left left' = IsRequest limit bytes items
+    × (left ≡ bytes ++ left')
 In limit Memory nothing left left' = Unit {0}
 In limit Memory (request bytes items at) left left' = ⊥
 In limit NotBuilt nothing left left' = (left ≡ [] → ⊥) × NoRequest limit left
-In limit NotBuilt (request bytes items at) left left' = IsRequest limit bytes items × ((b : ℕ) × (rest : List ℕ) × (left ≡ bytes ++ (b ∷ rest)))
+In limit NotBuilt (request bytes items at) left left' = IsRequest limit bytes items
+    × ((b : ℕ) × (rest : List ℕ) × (left ≡ bytes ++ (b ∷ rest)))
 
 -- how much of the reply was written: a front of it at WriteFault, and else all of it
 abbrev pub Out : SessionEnd → List ℕ → List ℕ → Type 0
@@ -53,11 +57,14 @@ Out NotBuilt text written = written ≡ text
 
 -- A whole session of one caller with its end and the turns that it made, over what the input, the output and the clock
 -- told before and after. n and m are the input's and the output's counts of faults.
-pub record Session (limit n m caller : ℕ) (end : SessionEnd) (turns : List Turn) (left left' given given' read read' : Option (List ℕ)) : Type 0 where
+pub record Session (limit n m caller : ℕ) (end : SessionEnd) (turns : List Turn)
+    (left left' given given' read read' : Option (List ℕ)) : Type 0 where
   pub served : Served
   pub made : turns ≡ turns_of caller served
   pub input : Told left left' n (In limit end served)
-  pub output : Told given given' m (λ given given'. (written : List ℕ) × (given' ≡ given ++ written) × Out end (text_of served) written)
+  pub output : Told given given' m
+      (λ given given'. (written : List ℕ) × (given' ≡ given ++ written)
+      × Out end (text_of served) written)
   pub clock : ReadsAll read read' (map (λ t. t.at) (turns_of caller served))
 
 -- What stands in the input behind the request, and what of it is left: nothing at Ended, a further byte at NotBuilt.
@@ -69,11 +76,14 @@ Behind Memory left left' = ⊥
 Behind NotBuilt left left' = (b : ℕ) × (rest : List ℕ) × (left ≡ b ∷ rest)
 
 -- a request that was read is served: its turn, its reply, and what stands behind it
-pub record Answers (n m caller : ℕ) (end : SessionEnd) (items : List Tree) (turns : List Turn) (left left' given given' read read' : Option (List ℕ)) : Type 0 where
+pub record Answers (n m caller : ℕ) (end : SessionEnd) (items : List Tree) (turns : List Turn)
+    (left left' given given' read read' : Option (List ℕ)) : Type 0 where
   pub at : ℕ
   pub made : turns ≡ first_write caller at items 1 ∷ []
   pub input : Told left left' n (Behind end)
-  pub output : Told given given' m (λ given given'. (written : List ℕ) × (given' ≡ given ++ written) × Out end (reply_text true (reference 1)) written)
+  pub output : Told given given' m
+      (λ given given'. (written : List ℕ) × (given' ≡ given ++ written)
+      × Out end (reply_text true (reference 1)) written)
   pub clock : ReadsAll read read' (at ∷ [])
 
 -- the status that names the end
@@ -86,7 +96,8 @@ status_of NotBuilt = 9
 
 -- A whole run: there is a legal history of at most one turn, of caller 0 alone, whose turns are those of a session with
 -- the end that the status names.
-pub record Runs (limit n m status : ℕ) (left left' given given' read read' : Option (List ℕ)) : Type 0 where
+pub record Runs (limit n m status : ℕ) (left left' given given' read read' : Option (List ℕ)) : Type
+    0 where
   pub history : List Turn
   pub legal : Legal history
   pub few : length history ≤ 1

@@ -9,4 +9,12 @@ use Rattle.rinda_rules.specs.declared.turn.Turn.{Turn}
 
 -- the turn of a caller that writes the tuple of these items for ever at this reading, and is answered with this id
 abbrev pub first_write : ℕ → ℕ → List Tree → ℕ → Turn
-first_write caller at items id = record { caller = caller; at = at; event = Write (tuple.List items) (record { life = Never; renewer = None }); out = Entry id; picks = [] }
+first_write caller at items id =
+    record {
+      caller = caller;
+      at = at;
+      event = Write (tuple.List items) (record { life = Never; renewer = None });
+      out =
+          Entry id;
+      picks = [];
+    }

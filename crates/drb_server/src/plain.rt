@@ -57,8 +57,10 @@ impl Marks {
 
     fn byte<'a>(&mut self, bytes: &'a [u8]) -> Result<(u8, &'a [u8]), Stop>
         requires { self.old.at + length bytes.now < 2 ^ 63 }
-        ensures ok { IfOk result (λ r. read byte_piece (seen self.old) bytes.now ≡ Ok (r.0, seen self.new, r.1.now)) }
-        ensures room { IfOk result (λ r. self.new.at + length r.1.now ≡ self.old.at + length bytes.now) }
+        ensures ok { IfOk result
+            (λ r. read byte_piece (seen self.old) bytes.now ≡ Ok (r.0, seen self.new, r.1.now)) }
+        ensures room { IfOk result
+            (λ r. self.new.at + length r.1.now ≡ self.old.at + length bytes.now) }
         ensures begun { self.new.begun ≡ self.old.begun }
         ensures other { IfErr result (λ e. Stops e (read byte_piece (seen self.old) bytes.now)) }
     {
@@ -71,8 +73,10 @@ impl Marks {
 
     fn long<'a>(&mut self, bytes: &'a [u8]) -> Result<(i64, &'a [u8]), Stop>
         requires { self.old.at + length bytes.now < 2 ^ 63 }
-        ensures ok { IfOk result (λ r. read long_piece (seen self.old) bytes.now ≡ Ok (r.0, seen self.new, r.1.now)) }
-        ensures room { IfOk result (λ r. self.new.at + length r.1.now ≡ self.old.at + length bytes.now) }
+        ensures ok { IfOk result
+            (λ r. read long_piece (seen self.old) bytes.now ≡ Ok (r.0, seen self.new, r.1.now)) }
+        ensures room { IfOk result
+            (λ r. self.new.at + length r.1.now ≡ self.old.at + length bytes.now) }
         ensures begun { self.new.begun ≡ self.old.begun }
         ensures other { IfErr result (λ e. Stops e (read long_piece (seen self.old) bytes.now)) }
     {
@@ -85,8 +89,10 @@ impl Marks {
 
     fn count<'a>(&mut self, bytes: &'a [u8]) -> Result<(u64, &'a [u8]), Stop>
         requires { self.old.at + length bytes.now < 2 ^ 63 }
-        ensures ok { IfOk result (λ r. read count_piece (seen self.old) bytes.now ≡ Ok (r.0, seen self.new, r.1.now)) }
-        ensures room { IfOk result (λ r. self.new.at + length r.1.now ≡ self.old.at + length bytes.now) }
+        ensures ok { IfOk result
+            (λ r. read count_piece (seen self.old) bytes.now ≡ Ok (r.0, seen self.new, r.1.now)) }
+        ensures room { IfOk result
+            (λ r. self.new.at + length r.1.now ≡ self.old.at + length bytes.now) }
         ensures begun { self.new.begun ≡ self.old.begun }
         ensures other { IfErr result (λ e. Stops e (read count_piece (seen self.old) bytes.now)) }
     {
@@ -100,8 +106,11 @@ impl Marks {
     /// A length and so many bytes.
     fn string<'a>(&mut self, bytes: &'a [u8]) -> Result<(&'a [u8], &'a [u8]), Stop>
         requires { self.old.at + length bytes.now < 2 ^ 63 }
-        ensures ok { IfOk result (λ r. read string_piece (seen self.old) bytes.now ≡ Ok (r.0.now, seen self.new, r.1.now)) }
-        ensures room { IfOk result (λ r. self.new.at + length r.1.now ≡ self.old.at + length bytes.now) }
+        ensures ok { IfOk result
+            (λ r. read string_piece (seen self.old) bytes.now
+            ≡ Ok (r.0.now, seen self.new, r.1.now)) }
+        ensures room { IfOk result
+            (λ r. self.new.at + length r.1.now ≡ self.old.at + length bytes.now) }
         ensures other { IfErr result (λ e. Stops e (read string_piece (seen self.old) bytes.now)) }
     {
         let (length, rest) = self.count(bytes)?;
@@ -115,10 +124,13 @@ impl Marks {
     /// So many nodes more.
     fn count_nodes(&mut self, more: u64) -> Result<(), Stop>
         requires { more < 2 ^ 62 }
-        ensures ok { (at : ℕ) → (bytes : List ℕ) → IfOk result (λ _. read (count_nodes_piece at more) (seen self.old) bytes ≡ Ok (tt, seen self.new, bytes)) }
+        ensures ok { (at : ℕ) → (bytes : List ℕ) →
+            IfOk result (λ _. read (count_nodes_piece at more) (seen self.old) bytes
+            ≡ Ok (tt, seen self.new, bytes)) }
         ensures place { self.new.at ≡ self.old.at }
         ensures begun { self.new.begun ≡ self.old.begun }
-        ensures other { (at : ℕ) → (bytes : List ℕ) → IfErr result (λ e. Stops e (read (count_nodes_piece at more) (seen self.old) bytes)) }
+        ensures other { (at : ℕ) → (bytes : List ℕ) →
+            IfErr result (λ e. Stops e (read (count_nodes_piece at more) (seen self.old) bytes)) }
     {
         if self.nodes + more > 262144 {
             return Err(Stop::Other);
@@ -129,9 +141,12 @@ impl Marks {
 
     /// A value of one node.
     fn simple(&mut self, value: Value) -> Result<Value, Stop>
-        ensures ok { (at : ℕ) → (bytes : List ℕ) → IfOk result (λ v. read (simple_piece at value) (seen self.old) bytes ≡ Ok (v, seen self.new, bytes)) }
+        ensures ok { (at : ℕ) → (bytes : List ℕ) →
+            IfOk result (λ v. read (simple_piece at value) (seen self.old) bytes
+            ≡ Ok (v, seen self.new, bytes)) }
         ensures place { self.new.at ≡ self.old.at }
-        ensures other { (at : ℕ) → (bytes : List ℕ) → IfErr result (λ e. Stops e (read (simple_piece at value) (seen self.old) bytes)) }
+        ensures other { (at : ℕ) → (bytes : List ℕ) →
+            IfErr result (λ e. Stops e (read (simple_piece at value) (seen self.old) bytes)) }
     {
         self.count_nodes(1)?;
         Ok(value)
@@ -140,9 +155,13 @@ impl Marks {
     /// An integer that is spelled with `i`.
     fn small_int<'a>(&mut self, bytes: &'a [u8]) -> Result<(Value, &'a [u8]), Stop>
         requires { self.old.at + length bytes.now < 2 ^ 63 }
-        ensures ok { (at : ℕ) → IfOk result (λ r. read (small_int_piece at) (seen self.old) bytes.now ≡ Ok (r.0, seen self.new, r.1.now)) }
-        ensures room { IfOk result (λ r. self.new.at + length r.1.now ≡ self.old.at + length bytes.now) }
-        ensures other { (at : ℕ) → IfErr result (λ e. Stops e (read (small_int_piece at) (seen self.old) bytes.now)) }
+        ensures ok { (at : ℕ) →
+            IfOk result (λ r. read (small_int_piece at) (seen self.old) bytes.now
+            ≡ Ok (r.0, seen self.new, r.1.now)) }
+        ensures room { IfOk result
+            (λ r. self.new.at + length r.1.now ≡ self.old.at + length bytes.now) }
+        ensures other { (at : ℕ) →
+            IfErr result (λ e. Stops e (read (small_int_piece at) (seen self.old) bytes.now)) }
     {
         let (number, rest) = self.long(bytes)?;
         let value = self.simple(Value {
@@ -154,10 +173,14 @@ impl Marks {
     /// A symbol's bytes, which are kept under the next number.
     fn symbol<'a>(&mut self, alloc: Global, bytes: &'a [u8]) -> Result<(&'a [u8], &'a [u8]), Stop>
         requires { self.old.at + length bytes.now < 2 ^ 63 }
-        ensures ok { (at : ℕ) → IfOk result (λ r. read (plain_symbol_piece at) (seen self.old) bytes.now ≡ Ok (r.0.now, seen self.new, r.1.now)) }
-        ensures room { IfOk result (λ r. self.new.at + length r.1.now ≡ self.old.at + length bytes.now) }
+        ensures ok { (at : ℕ) →
+            IfOk result (λ r. read (plain_symbol_piece at) (seen self.old) bytes.now
+            ≡ Ok (r.0.now, seen self.new, r.1.now)) }
+        ensures room { IfOk result
+            (λ r. self.new.at + length r.1.now ≡ self.old.at + length bytes.now) }
         ensures ascii { IfOk result (λ r. IsTrue (all_ascii r.0.now)) }
-        ensures other { (at : ℕ) → IfErr result (λ e. Stops e (read (plain_symbol_piece at) (seen self.old) bytes.now)) }
+        ensures other { (at : ℕ) →
+            IfErr result (λ e. Stops e (read (plain_symbol_piece at) (seen self.old) bytes.now)) }
     {
         let (name, rest) = self.string(bytes)?;
         if !is_ascii(name) {
@@ -185,9 +208,12 @@ impl Marks {
 
     /// A symbol as a value, which counts by its bytes.
     fn named(&mut self, name: Name) -> Result<Value, Stop>
-        ensures ok { (at : ℕ) → (bytes : List ℕ) → IfOk result (λ v. read (named_piece at name) (seen self.old) bytes ≡ Ok (v, seen self.new, bytes)) }
+        ensures ok { (at : ℕ) → (bytes : List ℕ) →
+            IfOk result (λ v. read (named_piece at name) (seen self.old) bytes
+            ≡ Ok (v, seen self.new, bytes)) }
         ensures place { self.new.at ≡ self.old.at }
-        ensures other { (at : ℕ) → (bytes : List ℕ) → IfErr result (λ e. Stops e (read (named_piece at name) (seen self.old) bytes)) }
+        ensures other { (at : ℕ) → (bytes : List ℕ) →
+            IfErr result (λ e. Stops e (read (named_piece at name) (seen self.old) bytes)) }
     {
         self.count_nodes(heavy(name.bytes.as_slice()))?;
         Ok(Value {
@@ -198,9 +224,14 @@ impl Marks {
     /// A symbol that was there before, by its number.
     fn linked<'a>(&mut self, alloc: Global, bytes: &'a [u8]) -> Result<(Value, &'a [u8]), Stop>
         requires { self.old.at + length bytes.now < 2 ^ 63 }
-        ensures ok { (at : ℕ) → IfOk result (λ r. read (symbol_value_piece at (linked_symbol_piece at)) (seen self.old) bytes.now ≡ Ok (r.0, seen self.new, r.1.now)) }
-        ensures room { IfOk result (λ r. self.new.at + length r.1.now ≡ self.old.at + length bytes.now) }
-        ensures other { (at : ℕ) → IfErr result (λ e. Stops e (read (symbol_value_piece at (linked_symbol_piece at)) (seen self.old) bytes.now)) }
+        ensures ok { (at : ℕ) →
+            IfOk result (λ r. read (symbol_value_piece at (linked_symbol_piece at))
+            (seen self.old) bytes.now ≡ Ok (r.0, seen self.new, r.1.now)) }
+        ensures room { IfOk result
+            (λ r. self.new.at + length r.1.now ≡ self.old.at + length bytes.now) }
+        ensures other { (at : ℕ) →
+            IfErr result (λ e. Stops e
+            (read (symbol_value_piece at (linked_symbol_piece at)) (seen self.old) bytes.now)) }
     {
         let (number, rest) = self.long(bytes)?;
         let name = self.symbol_at(alloc, number)?;
@@ -211,9 +242,14 @@ impl Marks {
     /// A symbol that is spelled here.
     fn spelled<'a>(&mut self, alloc: Global, bytes: &'a [u8]) -> Result<(Value, &'a [u8]), Stop>
         requires { self.old.at + length bytes.now < 2 ^ 63 }
-        ensures ok { (at : ℕ) → IfOk result (λ r. read (symbol_value_piece at (plain_symbol_piece at)) (seen self.old) bytes.now ≡ Ok (r.0, seen self.new, r.1.now)) }
-        ensures room { IfOk result (λ r. self.new.at + length r.1.now ≡ self.old.at + length bytes.now) }
-        ensures other { (at : ℕ) → IfErr result (λ e. Stops e (read (symbol_value_piece at (plain_symbol_piece at)) (seen self.old) bytes.now)) }
+        ensures ok { (at : ℕ) →
+            IfOk result (λ r. read (symbol_value_piece at (plain_symbol_piece at))
+            (seen self.old) bytes.now ≡ Ok (r.0, seen self.new, r.1.now)) }
+        ensures room { IfOk result
+            (λ r. self.new.at + length r.1.now ≡ self.old.at + length bytes.now) }
+        ensures other { (at : ℕ) →
+            IfErr result (λ e. Stops e
+            (read (symbol_value_piece at (plain_symbol_piece at)) (seen self.old) bytes.now)) }
     {
         let (name, rest) = self.symbol(alloc, bytes)?;
         let value = self.named(name_of(alloc, name)?)?;
@@ -228,9 +264,13 @@ impl Marks {
         bytes: &'a [u8],
     ) -> Result<(Value, &'a [u8]), Stop>
         requires { self.old.at + length bytes.now < 2 ^ 63 }
-        ensures ok { (at : ℕ) → IfOk result (λ r. read (plain_body kind at) (seen self.old) bytes.now ≡ Ok (r.0, seen self.new, r.1.now)) }
-        ensures room { IfOk result (λ r. self.new.at + length r.1.now ≡ self.old.at + length bytes.now) }
-        ensures other { (at : ℕ) → IfErr result (λ e. Stops e (read (plain_body kind at) (seen self.old) bytes.now)) }
+        ensures ok { (at : ℕ) →
+            IfOk result (λ r. read (plain_body kind at) (seen self.old) bytes.now
+            ≡ Ok (r.0, seen self.new, r.1.now)) }
+        ensures room { IfOk result
+            (λ r. self.new.at + length r.1.now ≡ self.old.at + length bytes.now) }
+        ensures other { (at : ℕ) →
+            IfErr result (λ e. Stops e (read (plain_body kind at) (seen self.old) bytes.now)) }
     {
         match kind {
             Kind::Nil => self.leaf(Node::Nil, bytes),
@@ -245,9 +285,14 @@ impl Marks {
 
     /// An item that its first byte spells.
     fn leaf<'a>(&mut self, node: Node, bytes: &'a [u8]) -> Result<(Value, &'a [u8]), Stop>
-        ensures ok { (at : ℕ) → IfOk result (λ r. read (simple_piece at (view_of node)) (seen self.old) bytes.now ≡ Ok (r.0, seen self.new, r.1.now)) }
-        ensures room { IfOk result (λ r. self.new.at + length r.1.now ≡ self.old.at + length bytes.now) }
-        ensures other { (at : ℕ) → IfErr result (λ e. Stops e (read (simple_piece at (view_of node)) (seen self.old) bytes.now)) }
+        ensures ok { (at : ℕ) →
+            IfOk result (λ r. read (simple_piece at (view_of node)) (seen self.old) bytes.now
+            ≡ Ok (r.0, seen self.new, r.1.now)) }
+        ensures room { IfOk result
+            (λ r. self.new.at + length r.1.now ≡ self.old.at + length bytes.now) }
+        ensures other { (at : ℕ) →
+            IfErr result (λ e. Stops e
+            (read (simple_piece at (view_of node)) (seen self.old) bytes.now)) }
     {
         let value = self.simple(Value { node })?;
         Ok((value, bytes))
@@ -256,8 +301,10 @@ impl Marks {
     /// An item.
     fn item<'a>(&mut self, alloc: Global, bytes: &'a [u8]) -> Result<(Value, &'a [u8]), Stop>
         requires { self.old.at + length bytes.now < 2 ^ 63 }
-        ensures ok { IfOk result (λ r. read plain_item (seen self.old) bytes.now ≡ Ok (r.0, seen self.new, r.1.now)) }
-        ensures room { IfOk result (λ r. self.new.at + length r.1.now ≡ self.old.at + length bytes.now) }
+        ensures ok { IfOk result
+            (λ r. read plain_item (seen self.old) bytes.now ≡ Ok (r.0, seen self.new, r.1.now)) }
+        ensures room { IfOk result
+            (λ r. self.new.at + length r.1.now ≡ self.old.at + length bytes.now) }
         ensures other { IfErr result (λ e. Stops e (read plain_item (seen self.old) bytes.now)) }
     {
         let (first, rest) = self.byte(bytes)?;
@@ -275,8 +322,11 @@ impl Marks {
         bytes: &'a [u8],
     ) -> Result<(Items<Value>, &'a [u8]), Stop>
         requires { self.old.at + length bytes.now < 2 ^ 63 }
-        ensures ok { IfOk result (λ r. read (values plain_item number) (seen self.old) bytes.now ≡ Ok (r.0, seen self.new, r.1.now)) }
-        ensures other { IfErr result (λ e. Stops e (read (values plain_item number) (seen self.old) bytes.now)) }
+        ensures ok { IfOk result
+            (λ r. read (values plain_item number) (seen self.old) bytes.now
+            ≡ Ok (r.0, seen self.new, r.1.now)) }
+        ensures other { IfErr result
+            (λ e. Stops e (read (values plain_item number) (seen self.old) bytes.now)) }
     {
         let mut found = Items::new(alloc);
         let mut rest = bytes;
@@ -291,8 +341,11 @@ impl Marks {
     /// The two bytes of the version.
     fn version<'a>(&mut self, bytes: &'a [u8]) -> Result<&'a [u8], Stop>
         requires { self.old.at + length bytes.now < 2 ^ 63 }
-        ensures ok { IfOk result (λ rest. read version_piece (seen self.old) bytes.now ≡ Ok (tt, seen self.new, rest.now)) }
-        ensures room { IfOk result (λ rest. self.new.at + length rest.now ≡ self.old.at + length bytes.now) }
+        ensures ok { IfOk result
+            (λ rest. read version_piece (seen self.old) bytes.now
+            ≡ Ok (tt, seen self.new, rest.now)) }
+        ensures room { IfOk result
+            (λ rest. self.new.at + length rest.now ≡ self.old.at + length bytes.now) }
         ensures begun { self.new.begun ≡ self.old.begun }
         ensures other { IfErr result (λ e. Stops e (read version_piece (seen self.old) bytes.now)) }
     {
@@ -311,8 +364,10 @@ impl Marks {
     fn head<'a>(&mut self, bytes: &'a [u8]) -> Result<(u64, &'a [u8]), Stop>
         requires room { self.old.at + length bytes.now < 2 ^ 63 }
         requires fresh { self.old.begun ≡ false }
-        ensures ok { IfOk result (λ r. read list_head (seen self.old) bytes.now ≡ Ok (r.0, seen self.new, r.1.now)) }
-        ensures room { IfOk result (λ r. self.new.at + length r.1.now ≡ self.old.at + length bytes.now) }
+        ensures ok { IfOk result
+            (λ r. read list_head (seen self.old) bytes.now ≡ Ok (r.0, seen self.new, r.1.now)) }
+        ensures room { IfOk result
+            (λ r. self.new.at + length r.1.now ≡ self.old.at + length bytes.now) }
         ensures other { IfErr result (λ e. Stops e (read list_head (seen self.old) bytes.now)) }
     {
         let (kind, rest) = self.byte(bytes)?;
@@ -330,7 +385,8 @@ impl Marks {
     fn list<'a>(&mut self, alloc: Global, bytes: &'a [u8]) -> Result<(Items<Value>, &'a [u8]), Stop>
         requires room { self.old.at + length bytes.now < 2 ^ 63 }
         requires fresh { self.old.begun ≡ false }
-        ensures ok { IfOk result (λ r. read plain_list (seen self.old) bytes.now ≡ Ok (r.0, seen self.new, r.1.now)) }
+        ensures ok { IfOk result
+            (λ r. read plain_list (seen self.old) bytes.now ≡ Ok (r.0, seen self.new, r.1.now)) }
         ensures other { IfErr result (λ e. Stops e (read plain_list (seen self.old) bytes.now)) }
     {
         let rest = self.version(bytes)?;
@@ -373,7 +429,9 @@ fn name_of(alloc: Global, bytes: &[u8]) -> Result<Name, Stop>
 /// bytes are anything else.
 pub fn read_plain(alloc: Global, bytes: &[u8]) -> Result<Option<Items<Value>>, AllocError>
     requires { length bytes.now < 2 ^ 62 }
-    ensures { IfOk result (λ o. MatchOption o ((items : List Tree) → IsPlainDump bytes.now items → ⊥) (λ items. IsPlainDump bytes.now items)) }
+    ensures { IfOk result
+        (λ o. MatchOption o ((items : List Tree) → IsPlainDump bytes.now items → ⊥)
+        (λ items. IsPlainDump bytes.now items)) }
 {
     let mut marks = Marks::new(alloc);
     let (items, rest) = match marks.list(alloc, bytes) {

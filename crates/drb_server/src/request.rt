@@ -46,11 +46,13 @@ const CHUNK: usize = 512;
 /// One read of at most the room that is left there, added to the list; says how many bytes it gave.
 fn read_more<S: Source>(source: &mut S, out: &mut Vec<u8>, room: usize) -> Result<usize, ReadError>
     requires { 0 < room }
-    ensures bytes { Told (S.left source.old) (S.left source.new) (S.faults source.new) (ReadsMore result out.old.items out.new.items) }
+    ensures bytes { Told (S.left source.old) (S.left source.new) (S.faults source.new)
+        (ReadsMore result out.old.items out.new.items) }
     ensures bound { IfOk result (λ n. (n ≤ room) × (vec_len out.new ≡ vec_len out.old + n)) }
     ensures same { OnErr result (vec_len out.new ≡ vec_len out.old) }
     ensures later { S.faults source.old ≤ S.faults source.new }
-    ensures failed { IsErrOf result ReadError.ReadFault → Rose (S.faults source.old) (S.faults source.new) }
+    ensures failed { IsErrOf result ReadError.ReadFault →
+        Rose (S.faults source.old) (S.faults source.new) }
 {
     let room = room.min(CHUNK);
     if out.reserve(room).is_err() {
@@ -67,10 +69,12 @@ fn read_more<S: Source>(source: &mut S, out: &mut Vec<u8>, room: usize) -> Resul
 /// Fills the list up to the wanted number, by as many reads as it takes. False where the source ended first.
 fn fill<S: Source>(source: &mut S, out: &mut Vec<u8>, want: usize) -> Result<bool, ReadError>
     requires { vec_len out.old ≤ want }
-    ensures bytes { Told (S.left source.old) (S.left source.new) (S.faults source.new) (Fills want result out.old.items out.new.items) }
+    ensures bytes { Told (S.left source.old) (S.left source.new) (S.faults source.new)
+        (Fills want result out.old.items out.new.items) }
     ensures full { IfOk result (λ b. IsTrue b → vec_len out.new ≡ want) }
     ensures later { S.faults source.old ≤ S.faults source.new }
-    ensures failed { IsErrOf result ReadError.ReadFault → Rose (S.faults source.old) (S.faults source.new) }
+    ensures failed { IsErrOf result ReadError.ReadFault →
+        Rose (S.faults source.old) (S.faults source.new) }
 {
     while out.len() < want {
         let count = read_more(source, out, want - out.len())?;
@@ -98,7 +102,9 @@ fn items_of(
     requires header { length header.now ≡ 38 }
     requires room { length tail.now ≡ size + 7 }
     requires few { size < 2 ^ 32 }
-    ensures { IfOk result (λ o. MatchOption o ((items : List Tree) → IsTail (take 34 header.now) size tail.now items → ⊥) (λ items. IsTail (take 34 header.now) size tail.now items)) }
+    ensures { IfOk result
+        (λ o. MatchOption o ((items : List Tree) → IsTail (take 34 header.now) size tail.now items →
+        ⊥) (λ items. IsTail (take 34 header.now) size tail.now items)) }
 {
     let front = &header[..34];
     let closing = &tail[size..];
@@ -131,10 +137,12 @@ fn read_tail<S: Source>(
     requires header { length header.now ≡ 38 }
     requires sized { size ≡ big_number 4 (drop 34 header.now) }
     requires small { size < limit }
-    ensures first { Told (S.left source.old) (S.left source.new) (S.faults source.new) (ReadsTail limit header.now result) }
+    ensures first { Told (S.left source.old) (S.left source.new) (S.faults source.new)
+        (ReadsTail limit header.now result) }
     ensures front { Told (S.left source.old) (S.left source.new) (S.faults source.new) Taken }
     ensures later { S.faults source.old ≤ S.faults source.new }
-    ensures failed { IsErrOf result ReadError.ReadFault → Rose (S.faults source.old) (S.faults source.new) }
+    ensures failed { IsErrOf result ReadError.ReadFault →
+        Rose (S.faults source.old) (S.faults source.new) }
 {
     let size = size as usize;
     let mut tail = Vec::new(alloc);
@@ -155,10 +163,12 @@ fn read_tail<S: Source>(
 /// Errors: `ReadFault` only where the source's own count of faults rose; `Memory` at any time.
 /// Source: Ruby's drb.rb, DRbMessage#recv_request; docs/SESSIONS.md, The first request.
 pub fn read_first<S: Source>(alloc: Global, source: &mut S, limit: u32) -> Result<First, ReadError>
-    ensures first { Told (S.left source.old) (S.left source.new) (S.faults source.new) (ReadsFirst limit result) }
+    ensures first { Told (S.left source.old) (S.left source.new) (S.faults source.new)
+        (ReadsFirst limit result) }
     ensures front { Told (S.left source.old) (S.left source.new) (S.faults source.new) Taken }
     ensures later { S.faults source.old ≤ S.faults source.new }
-    ensures failed { IsErrOf result ReadError.ReadFault → Rose (S.faults source.old) (S.faults source.new) }
+    ensures failed { IsErrOf result ReadError.ReadFault →
+        Rose (S.faults source.old) (S.faults source.new) }
 {
     let mut header = Vec::new(alloc);
     if !fill(source, &mut header, 38)? {
@@ -179,7 +189,8 @@ pub fn read_first<S: Source>(alloc: Global, source: &mut S, limit: u32) -> Resul
 ///
 /// Errors: `ReadFault` only where the source's own count of faults rose; nothing was taken then.
 pub fn is_at_end<S: Source>(source: &mut S) -> Result<bool, ReadError>
-    ensures end { Told (S.left source.old) (S.left source.new) (S.faults source.new) (ReadsEnd result) }
+    ensures end { Told (S.left source.old) (S.left source.new) (S.faults source.new)
+        (ReadsEnd result) }
     ensures front { Told (S.left source.old) (S.left source.new) (S.faults source.new) Taken }
     ensures later { S.faults source.old ≤ S.faults source.new }
     ensures failed { OnErr result (Rose (S.faults source.old) (S.faults source.new)) }

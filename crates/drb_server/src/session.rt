@@ -54,12 +54,16 @@ fn answer<S: Source, K: Sink, C: Clock>(
     items: Items<Value>,
 ) -> SessionEnd
     requires { space.old.turns.items ≡ [] }
-    ensures answers { Answers (S.faults input.new) (K.faults output.new) CALLER result items space.new.turns.items (S.left input.old) (S.left input.new) (K.given output.old) (K.given output.new) (C.readings clock.old) (C.readings clock.new) }
+    ensures answers { Answers (S.faults input.new) (K.faults output.new) CALLER result items
+        space.new.turns.items (S.left input.old) (S.left input.new) (K.given output.old)
+        (K.given output.new) (C.readings clock.old) (C.readings clock.new) }
     ensures front { Told (S.left input.old) (S.left input.new) (S.faults input.new) Taken }
     ensures in_later { S.faults input.old ≤ S.faults input.new }
     ensures out_later { K.faults output.old ≤ K.faults output.new }
-    ensures in_fault { result ≡ SessionEnd.ReadFault → Rose (S.faults input.old) (S.faults input.new) }
-    ensures out_fault { result ≡ SessionEnd.WriteFault → Rose (K.faults output.old) (K.faults output.new) }
+    ensures in_fault { result ≡ SessionEnd.ReadFault →
+        Rose (S.faults input.old) (S.faults input.new) }
+    ensures out_fault { result ≡ SessionEnd.WriteFault →
+        Rose (K.faults output.old) (K.faults output.new) }
 {
     let at = clock.now();
     space.write(alloc, CALLER, at, items);
@@ -83,10 +87,14 @@ fn serve<S: Source, K: Sink, C: Clock>(
     clock: &mut C,
 ) -> SessionEnd
     requires { space.old.turns.items ≡ [] }
-    ensures session { Session limit (S.faults input.new) (K.faults output.new) CALLER result space.new.turns.items (S.left input.old) (S.left input.new) (K.given output.old) (K.given output.new) (C.readings clock.old) (C.readings clock.new) }
+    ensures session { Session limit (S.faults input.new) (K.faults output.new) CALLER result
+        space.new.turns.items (S.left input.old) (S.left input.new) (K.given output.old)
+        (K.given output.new) (C.readings clock.old) (C.readings clock.new) }
     ensures front { Told (S.left input.old) (S.left input.new) (S.faults input.new) Taken }
-    ensures in_fault { result ≡ SessionEnd.ReadFault → Rose (S.faults input.old) (S.faults input.new) }
-    ensures out_fault { result ≡ SessionEnd.WriteFault → Rose (K.faults output.old) (K.faults output.new) }
+    ensures in_fault { result ≡ SessionEnd.ReadFault →
+        Rose (S.faults input.old) (S.faults input.new) }
+    ensures out_fault { result ≡ SessionEnd.WriteFault →
+        Rose (K.faults output.old) (K.faults output.new) }
 {
     match read_first(alloc, input, limit) {
         Ok(First::Request(items)) => answer(alloc, space, input, output, clock, items),
@@ -117,12 +125,16 @@ fn run_alone<S: Source, K: Sink, C: Clock>(
     output: &mut K,
     clock: &mut C,
 ) -> u8
-    ensures run { Runs LOAD_LIMIT (S.faults input.new) (K.faults output.new) result (S.left input.old) (S.left input.new) (K.given output.old) (K.given output.new) (C.readings clock.old) (C.readings clock.new) }
+    ensures run { Runs LOAD_LIMIT (S.faults input.new) (K.faults output.new) result
+        (S.left input.old) (S.left input.new) (K.given output.old) (K.given output.new)
+        (C.readings clock.old) (C.readings clock.new) }
     ensures front { Told (S.left input.old) (S.left input.new) (S.faults input.new) Taken }
     ensures other { result ≢ 1 }
     ensures in_fault { result ≡ 4 → Rose (S.faults input.old) (S.faults input.new) }
     ensures out_fault { result ≡ 5 → Rose (K.faults output.old) (K.faults output.new) }
-    ensures complete { (bytes : List ℕ) → S.left input.old ≡ Some bytes → IsWhole LOAD_LIMIT bytes → (Rose (S.faults input.old) (S.faults input.new) → ⊥) → (Rose (K.faults output.old) (K.faults output.new) → ⊥) → (result ≡ 0) ⊎ (result ≡ 7) }
+    ensures complete { (bytes : List ℕ) → S.left input.old ≡ Some bytes → IsWhole LOAD_LIMIT bytes →
+        (Rose (S.faults input.old) (S.faults input.new) → ⊥) →
+        (Rose (K.faults output.old) (K.faults output.new) → ⊥) → (result ≡ 0) ⊎ (result ≡ 7) }
 {
     let Ok(mut space) = Space::new(alloc) else {
         return 7;
@@ -165,13 +177,20 @@ pub fn stdio_run<S: Source, K: Sink, C: Clock, D: Dialer>(
     dialer: &mut D,
 ) -> Status
     ensures words { result.0 ≡ 1 ↔ (IsStdio (map (λ w. string_bytes w) words.now) → ⊥) }
-    ensures untouched { result.0 ≡ 1 → (input.new ≡ input.old) × (output.new ≡ output.old) × (clock.new ≡ clock.old) }
+    ensures untouched { result.0 ≡ 1 → (input.new ≡ input.old) × (output.new ≡ output.old)
+        × (clock.new ≡ clock.old) }
     ensures no_calls { dialer.new ≡ dialer.old }
-    ensures run { result.0 ≢ 1 → Runs LOAD_LIMIT (S.faults input.new) (K.faults output.new) result.0 (S.left input.old) (S.left input.new) (K.given output.old) (K.given output.new) (C.readings clock.old) (C.readings clock.new) }
+    ensures run { result.0 ≢ 1 →
+        Runs LOAD_LIMIT (S.faults input.new) (K.faults output.new) result.0 (S.left input.old)
+        (S.left input.new) (K.given output.old) (K.given output.new) (C.readings clock.old)
+        (C.readings clock.new) }
     ensures front { Told (S.left input.old) (S.left input.new) (S.faults input.new) Taken }
     ensures in_fault { result.0 ≡ 4 → Rose (S.faults input.old) (S.faults input.new) }
     ensures out_fault { result.0 ≡ 5 → Rose (K.faults output.old) (K.faults output.new) }
-    ensures complete { IsStdio (map (λ w. string_bytes w) words.now) → (bytes : List ℕ) → S.left input.old ≡ Some bytes → IsWhole LOAD_LIMIT bytes → (Rose (S.faults input.old) (S.faults input.new) → ⊥) → (Rose (K.faults output.old) (K.faults output.new) → ⊥) → (result.0 ≡ 0) ⊎ (result.0 ≡ 7) }
+    ensures complete { IsStdio (map (λ w. string_bytes w) words.now) → (bytes : List ℕ) →
+        S.left input.old ≡ Some bytes → IsWhole LOAD_LIMIT bytes →
+        (Rose (S.faults input.old) (S.faults input.new) → ⊥) →
+        (Rose (K.faults output.old) (K.faults output.new) → ⊥) → (result.0 ≡ 0) ⊎ (result.0 ≡ 7) }
 {
     let _dialer = dialer;
     if !is_stdio(words) {

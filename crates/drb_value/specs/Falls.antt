@@ -12,15 +12,20 @@ use Rattle.drb_value.specs.declared.Dumped.TheShapes.{weighed-FieldList-list-at-
 use Rattle.drb_value.specs.View.{view_of}
 use denote.Param.Weighed.{most}
 
-pairs_falls : (ts : List (Tree × Tree)) → most (weighed-Pairs-pairs-at-2.weight Tree (λ y. 3 * W.depth y + 1)) ts ≤ 3 * W.most_pairs (map (λ p. (W.depth p.0, W.depth p.1)) ts) + 1
+pairs_falls : (ts : List (Tree × Tree)) →
+    most (weighed-Pairs-pairs-at-2.weight Tree (λ y. 3 * W.depth y + 1)) ts ≤ 3 * W.most_pairs
+    (map (λ p. (W.depth p.0, W.depth p.1)) ts) + 1
 pairs_falls [] = omega arith
 pairs_falls (t ∷ ts) = omega (arith, pairs_falls ts)
 
-fields_falls : (ts : List (List ℕ × Tree)) → most (weighed-FieldList-list-at-2.weight Tree (λ y. 3 * W.depth y + 1)) ts ≤ 3 * W.fields_depth ts + 1
+fields_falls : (ts : List (List ℕ × Tree)) →
+    most (weighed-FieldList-list-at-2.weight Tree (λ y. 3 * W.depth y + 1)) ts ≤ 3 * W.fields_depth
+    ts + 1
 fields_falls [] = omega arith
 fields_falls (t ∷ ts) = omega (arith, fields_falls ts)
 
-each_falls : (ps : List (Tree × Tree)) (d : Option Tree) → deep-Pairs (record { pairs = ps; default = d }) ≤ 3 * W.pairs_depth (ps, d) + 1
+each_falls : (ps : List (Tree × Tree)) (d : Option Tree) →
+    deep-Pairs (record { pairs = ps; default = d }) ≤ 3 * W.pairs_depth (ps, d) + 1
 each_falls ps None = omega (arith, pairs_falls ps)
 each_falls ps (Some d) = omega (arith, pairs_falls ps)
 

@@ -41,7 +41,8 @@ abbrev pub InRounds : {A S : Type 0} → (S → ℕ → Spelling (S ⊎ A)) → 
 InRounds Round zero s c bs v d = ⊥
 InRounds {S = S} Round (suc n) s c bs v d = (b : ℕ) × (more : List ℕ) × (bs ≡ b ∷ more)
     × (Round s b (past 1 c) more (inr v) d
-    ⊎ ((t : S) × (these rest : List ℕ) × (e : Context) × (more ≡ these ++ rest) × Round s b (past 1 c) these (inl t) e × InRounds Round n t e rest v d))
+    ⊎ ((t : S) × (these rest : List ℕ) × (e : Context) × (more ≡ these ++ rest)
+    × Round s b (past 1 c) these (inl t) e × InRounds Round n t e rest v d))
 
 -- These bytes spell v from context c, and lead to context d.
 abbrev pub Spells : {A : Type 0} → Grammar A → Spelling A
@@ -54,7 +55,8 @@ Spells long c bs v d = Long bs v × (d ≡ past (length bs) c)
 Spells context c bs v d = (bs ≡ []) × (v ≡ c) × (d ≡ c)
 Spells (becomes f) c bs v d = (bs ≡ []) × (d ≡ f c)
 Spells (within g s w at) c bs v d = (bs ≡ []) × Front (Spells g) opening s v × (d ≡ c)
-Spells (follows {B = B} p q) c bs v d = (x : B) × (these rest : List ℕ) × (e : Context) × (bs ≡ these ++ rest) × Spells p c these x e × Spells (q x) e rest v d
+Spells (follows {B = B} p q) c bs v d = (x : B) × (these rest : List ℕ) × (e : Context)
+    × (bs ≡ these ++ rest) × Spells p c these x e × Spells (q x) e rest v d
 Spells (rounds f s) c bs v d = (n : ℕ) × InRounds (λ t b. Spells (f t b)) n s c bs v d
 
 -- r is this reason at this place
@@ -67,19 +69,22 @@ IsShort c bs r = Is r why.Short (c.at + length bs)
 
 -- some front of the bytes spells something, and the bytes after it meet the refusal
 abbrev pub After : {A : Type 0} → Spelling A → (A → Refusing) → Refusing
-After {A = A} S Next c bs r = (x : A) × (these rest : List ℕ) × (e : Context) × (bs ≡ these ++ rest) × S c these x e × Next x e rest r
+After {A = A} S Next c bs r = (x : A) × (these rest : List ℕ) × (e : Context) × (bs ≡ these ++ rest)
+    × S c these x e × Next x e rest r
 
 -- no front of the bytes spells anything
 abbrev pub NoFront : {A : Type 0} → Spelling A → Context → List ℕ → Type 0
 NoFront {A = A} S c bs = (v : A) → Front S c bs v → ⊥
 
 -- the refusal is met in one of n rounds, and those before it are spelled; a round's first byte may be missing
-abbrev pub MeetsInRounds : {A S : Type 0} → (S → ℕ → Spelling (S ⊎ A)) → (S → ℕ → Refusing) → ℕ → S → Refusing
+abbrev pub MeetsInRounds : {A S : Type 0} → (S → ℕ → Spelling (S ⊎ A)) → (S → ℕ → Refusing) → ℕ →
+    S → Refusing
 MeetsInRounds Round Meet zero s c bs r = ⊥
 MeetsInRounds {S = S} Round Meet (suc n) s c bs r = ((bs ≡ []) × IsShort c bs r)
     ⊎ ((b : ℕ) × (more : List ℕ) × (bs ≡ b ∷ more)
     × (Meet s b (past 1 c) more r
-    ⊎ ((t : S) × (these rest : List ℕ) × (e : Context) × (more ≡ these ++ rest) × Round s b (past 1 c) these (inl t) e × MeetsInRounds Round Meet n t e rest r)))
+    ⊎ ((t : S) × (these rest : List ℕ) × (e : Context) × (more ≡ these ++ rest)
+    × Round s b (past 1 c) these (inl t) e × MeetsInRounds Round Meet n t e rest r)))
 
 -- From a context, these bytes meet this refusal: all before its place is spelled.
 abbrev pub Meets : {A : Type 0} → Grammar A → Refusing
@@ -93,7 +98,8 @@ Meets context c bs r = ⊥
 Meets (becomes f) c bs r = ⊥
 Meets (within g s w at) c bs r = NoFront (Spells g) opening s × Is r w at
 Meets (follows p q) c bs r = Meets p c bs r ⊎ After (Spells p) (λ x. Meets (q x)) c bs r
-Meets (rounds f s) c bs r = (n : ℕ) × MeetsInRounds (λ t b. Spells (f t b)) (λ t b. Meets (f t b)) n s c bs r
+Meets (rounds f s) c bs r =
+    (n : ℕ) × MeetsInRounds (λ t b. Spells (f t b)) (λ t b. Meets (f t b)) n s c bs r
 
 -- one piece after the other
 infixl 10 ◌>>=◌

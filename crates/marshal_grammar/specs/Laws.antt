@@ -56,7 +56,8 @@ ReadsRefusals = (bs : List ℕ) (r : Refusal) → (dump_of bs ≡ Err r) ↔ Ref
 abbrev pub ReadsSpelled : Type 0
 ReadsSpelled = (v : Tree) → WellKept v → Ranged v → Fits v
     → Dump (spelled v) v
-    × ((b rest tail : List ℕ) (w : Tree) → Dump b w → spelled v ++ rest ≡ b ++ tail → (b ≡ spelled v) × (w ≡ v))
+    × ((b rest tail : List ℕ) (w : Tree) → Dump b w → spelled v ++ rest ≡ b ++ tail →
+    (b ≡ spelled v) × (w ≡ v))
 
 -- The value of a dump fits into a dump, and is well kept and ranged.
 abbrev pub DumpsFit : Type 0

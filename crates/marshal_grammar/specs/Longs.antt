@@ -33,7 +33,8 @@ NoLong bs = (n : ℤ) (b rest : List ℕ) → Long b n → bs ≡ b ++ rest → 
 
 -- from the place at to the place end, the bytes are a spelling of the number
 abbrev pub LongAt : List ℕ → ℕ → ℤ → ℕ → Type 0
-LongAt bs at n end = (b : List ℕ) × Long b n × (drop at bs ≡ b ++ drop end bs) × (end ≡ at + length b)
+LongAt bs at n end = (b : List ℕ) × Long b n × (drop at bs ≡ b ++ drop end bs)
+    × (end ≡ at + length b)
 
 -- the long at the front and the bytes after it; None: bytes of it are missing
 abbrev pub long_of : List ℕ → Option (ℤ × List ℕ)

@@ -36,12 +36,14 @@ inside w at c bs (Ok r) = Ok (r.0, c, bs)
 inside w at c bs (Err e) = refuse w at
 
 -- after a round: another one, or this was the last
-abbrev pub go_on : {A S : Type 0} → (S → Context → List ℕ → Read A) → S ⊎ A → Context → List ℕ → Read A
+abbrev pub go_on : {A S : Type 0} → (S → Context → List ℕ → Read A) → S ⊎ A → Context → List ℕ →
+    Read A
 go_on again (inl t) c bs = again t c bs
 go_on again (inr v) c bs = Ok (v, c, bs)
 
 -- rounds until one is the last, at most n of them
-abbrev pub in_rounds : {A S : Type 0} → (S → ℕ → Context → List ℕ → Read (S ⊎ A)) → ℕ → S → Context → List ℕ → Read A
+abbrev pub in_rounds : {A S : Type 0} → (S → ℕ → Context → List ℕ → Read (S ⊎ A)) → ℕ → S →
+    Context → List ℕ → Read A
 in_rounds round zero s c bs = short c bs
 in_rounds round (suc n) s c [] = short c []
 in_rounds round (suc n) s c (b ∷ bs) = next (round s b (past 1 c) bs) (go_on (in_rounds round n))
@@ -53,7 +55,8 @@ read (refuses w at) c bs = refuse w at
 read (must b w at) c bs = if b then Ok (tt, c, bs) else refuse w at
 read byte c [] = short c []
 read byte c (b ∷ bs) = Ok (b, past 1 c, bs)
-read (bytes n) c bs = if nat_lt (length bs) n then short c bs else Ok (take n bs, past n c, drop n bs)
+read (bytes n) c bs = if nat_lt (length bs) n then short c bs
+    else Ok (take n bs, past n c, drop n bs)
 read long c bs = long_or c bs (long_of bs)
 read context c bs = Ok (c, c, bs)
 read (becomes f) c bs = Ok (tt, f c, bs)

@@ -121,7 +121,8 @@ id_bytes_of (R.Text t) = text_bytes t.bytes t.code
 -- the count 2 (07), its uri and its id
 abbrev pub remote_bytes : Remote → List ℕ
 remote_bytes r =
-    ((these (4 ∷ 8 ∷ 91 ∷ 7 ∷ []) then text_bytes r.uri.bytes r.uri.code then id_bytes_of r.id) []).0
+    ((these (4 ∷ 8 ∷ 91 ∷ 7 ∷ []) then text_bytes r.uri.bytes r.uri.code then id_bytes_of r.id)
+    []).0
 
 -- values, one after the other
 abbrev pub each_value : List Writing → Writing
@@ -151,7 +152,8 @@ fields_bytes fs = these (long_from (length fs)) then each_field fs
 abbrev pub dumped_bytes : List ℕ → List ℕ → List (List ℕ × Writing) → Writing
 dumped_bytes c bs [] = these (117 ∷ []) then symbol_bytes c then these (string_bytes_of bs)
 dumped_bytes c bs (f ∷ fs) =
-    these (73 ∷ 117 ∷ []) then symbol_bytes c then these (string_bytes_of bs) then fields_bytes (f ∷ fs)
+    these (73 ∷ 117 ∷ []) then symbol_bytes c then these (string_bytes_of bs)
+    then fields_bytes (f ∷ fs)
 
 -- what a value writes, from what its parts write
 abbrev pub writing_step : Tree-F Writing → Writing
@@ -164,12 +166,14 @@ writing_step (Tree-F.List ws) = these (91 ∷ long_from (length ws)) then each_v
 writing_step (Tree-F.Hash ps d) = hash_bytes ps d
 writing_step (Tree-F.Class n) = these (99 ∷ string_bytes_of n)  -- `c`
 writing_step (Tree-F.Module n) = these (109 ∷ string_bytes_of n)  -- `m`
-writing_step (Tree-F.Object c fs) = these (111 ∷ []) then symbol_bytes c then fields_bytes fs  -- `o`
+-- `o`
+writing_step (Tree-F.Object c fs) = these (111 ∷ []) then symbol_bytes c then fields_bytes fs
 writing_step (Tree-F.Struct c fs) = these (83 ∷ []) then symbol_bytes c then fields_bytes fs  -- `S`
 writing_step (Tree-F.Dumped c bs fs) = dumped_bytes c bs fs
 writing_step (Tree-F.Wrapped c w) = these (85 ∷ []) then symbol_bytes c then w  -- `U`
 writing_step (Tree-F.Remote r) =
-    these (117 ∷ []) then symbol_bytes remote_class then these (string_bytes_of (remote_bytes r))  -- `u`
+    -- `u`
+    these (117 ∷ []) then symbol_bytes remote_class then these (string_bytes_of (remote_bytes r))
 
 -- what a value writes
 abbrev pub writing : Tree → Writing

@@ -5,7 +5,8 @@ use Rattle.rinda_rules.specs.Space.{Plain, is_due_tuple, is_due_request, is_due_
 
 -- no row of an id from one on and below another is due
 abbrev pub none_due : {R : Type 0} → (R → ℕ) → (R → Bool) → ℕ → ℕ → List R → Bool
-none_due key due from to rows = list_all (λ row. not (due row) || (nat_lt (key row) from || nat_le to (key row))) rows
+none_due key due from to rows =
+    list_all (λ row. not (due row) || (nat_lt (key row) from || nat_le to (key row))) rows
 
 -- the same of all rows of the space
 pub record NoneDue (s : Plain) (from to : ℕ) : Type 0 where

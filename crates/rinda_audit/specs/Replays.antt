@@ -78,4 +78,5 @@ TellsId shut next Shut o = Unit {0}
 
 -- the answer of the case with that choice, and the space after the picks
 abbrev pub case_after : Plain → ℕ → Event → Option Entry → List Pick → Outcome
-case_after s caller event choice picks = let o = outcome s caller event choice in record { out = o.out; after = served_all (aged o.after) picks }
+case_after s caller event choice picks = let o = outcome s caller event choice
+    in record { out = o.out; after = served_all (aged o.after) picks }

@@ -22,7 +22,9 @@ pub fn least_tuple(
     rows: &[Entry],
     best: Option<Asking>,
 ) -> Result<Option<Asking>, AllocError>
-    ensures { IfOk result (λ a. best_seen a ≡ least_onto (flat (λ row. asking_of row.id row.doubt row.renewer) rows.now) (best_seen best)) }
+    ensures { IfOk result
+        (λ a. best_seen a ≡ least_onto
+        (flat (λ row. asking_of row.id row.doubt row.renewer) rows.now) (best_seen best)) }
 {
     let mut best = best;
     let mut left = rows.len();
@@ -40,7 +42,9 @@ pub fn least_request(
     rows: &[Request],
     best: Option<Asking>,
 ) -> Result<Option<Asking>, AllocError>
-    ensures { IfOk result (λ a. best_seen a ≡ least_onto (flat (λ row. asking_of row.id row.doubt row.renewer) rows.now) (best_seen best)) }
+    ensures { IfOk result
+        (λ a. best_seen a ≡ least_onto
+        (flat (λ row. asking_of row.id row.doubt row.renewer) rows.now) (best_seen best)) }
 {
     let mut best = best;
     let mut left = rows.len();
@@ -58,7 +62,9 @@ pub fn least_notifier(
     rows: &[Notifier],
     best: Option<Asking>,
 ) -> Result<Option<Asking>, AllocError>
-    ensures { IfOk result (λ a. best_seen a ≡ least_onto (flat (λ row. asking_of row.id row.doubt row.renewer) rows.now) (best_seen best)) }
+    ensures { IfOk result
+        (λ a. best_seen a ≡ least_onto
+        (flat (λ row. asking_of row.id row.doubt row.renewer) rows.now) (best_seen best)) }
 {
     let mut best = best;
     let mut left = rows.len();
@@ -78,7 +84,8 @@ fn sooner(
     renewer: &Option<Remote>,
     best: Option<Asking>,
 ) -> Result<Option<Asking>, AllocError>
-    ensures { IfOk result (λ a. best_seen a ≡ least_onto (asking_of id doubt renewer.now) (best_seen best)) }
+    ensures { IfOk result
+        (λ a. best_seen a ≡ least_onto (asking_of id doubt renewer.now) (best_seen best)) }
 {
     match doubt {
         Doubt::No => Ok(best),
@@ -96,7 +103,9 @@ fn earlier(
     renewer: &Remote,
     best: Option<Asking>,
 ) -> Result<Option<Asking>, AllocError>
-    ensures { IfOk result (λ a. best_seen a ≡ least_onto (record { id = id; renewer = renewer.now } ∷ []) (best_seen best)) }
+    ensures { IfOk result
+        (λ a. best_seen a ≡ least_onto (record { id = id; renewer = renewer.now } ∷ [])
+        (best_seen best)) }
 {
     if let Some(a) = best {
         if id > a.id {

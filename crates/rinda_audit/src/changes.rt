@@ -55,7 +55,8 @@ pub fn change_tuples(
     id: u64,
     change: &TupleChange,
 ) -> Result<Vec<Entry>, AllocError>
-    ensures { IfOk result (λ v. v.items ≡ changed (λ row. row.id) id (tuple_after change.now) rows.now) }
+    ensures { IfOk result
+        (λ v. v.items ≡ changed (λ row. row.id) id (tuple_after change.now) rows.now) }
 {
     let mut changed = Vec::new(alloc);
     for row in rows {
@@ -70,7 +71,8 @@ fn tuple_where(
     id: u64,
     change: &TupleChange,
 ) -> Result<Entry, AllocError>
-    ensures { IfOk result (λ r. r ≡ (if row.now.id == id then tuple_after change.now row.now else row.now)) }
+    ensures { IfOk result
+        (λ r. r ≡ (if row.now.id == id then tuple_after change.now row.now else row.now)) }
 {
     if row.id == id {
         tuple_changed(alloc, row, change)
@@ -159,7 +161,8 @@ pub fn change_requests(
     id: u64,
     change: &RequestChange,
 ) -> Result<Vec<Request>, AllocError>
-    ensures { IfOk result (λ v. v.items ≡ changed (λ row. row.id) id (request_after change.now) rows.now) }
+    ensures { IfOk result
+        (λ v. v.items ≡ changed (λ row. row.id) id (request_after change.now) rows.now) }
 {
     let mut changed = Vec::new(alloc);
     for row in rows {
@@ -174,7 +177,8 @@ fn request_where(
     id: u64,
     change: &RequestChange,
 ) -> Result<Request, AllocError>
-    ensures { IfOk result (λ r. r ≡ (if row.now.id == id then request_after change.now row.now else row.now)) }
+    ensures { IfOk result
+        (λ r. r ≡ (if row.now.id == id then request_after change.now row.now else row.now)) }
 {
     if row.id == id {
         request_changed(alloc, row, change)
@@ -264,7 +268,8 @@ pub fn change_notifiers(
     id: u64,
     change: &NotifierChange,
 ) -> Result<Vec<Notifier>, AllocError>
-    ensures { IfOk result (λ v. v.items ≡ changed (λ row. row.id) id (notifier_after change.now) rows.now) }
+    ensures { IfOk result
+        (λ v. v.items ≡ changed (λ row. row.id) id (notifier_after change.now) rows.now) }
 {
     let mut changed = Vec::new(alloc);
     for row in rows {
@@ -279,7 +284,8 @@ fn notifier_where(
     id: u64,
     change: &NotifierChange,
 ) -> Result<Notifier, AllocError>
-    ensures { IfOk result (λ r. r ≡ (if row.now.id == id then notifier_after change.now row.now else row.now)) }
+    ensures { IfOk result
+        (λ r. r ≡ (if row.now.id == id then notifier_after change.now row.now else row.now)) }
 {
     if row.id == id {
         notifier_changed(alloc, row, change)
@@ -353,7 +359,9 @@ pub fn popped_notifiers(
     id: u64,
 ) -> Result<Vec<Notifier>, AllocError>
     requires { list_all (λ row. nat_lt row.popped (2 ^ 63)) rows.now ≡ true }
-    ensures { IfOk result (λ v. v.items ≡ changed (λ row. row.id) id (λ row. record row { popped = row.popped + 1 }) rows.now) }
+    ensures { IfOk result
+        (λ v. v.items ≡ changed (λ row. row.id) id (λ row. record row { popped = row.popped + 1 })
+        rows.now) }
 {
     let mut popped = Vec::new(alloc);
     for row in rows {
@@ -364,7 +372,9 @@ pub fn popped_notifiers(
 
 fn popped_where(alloc: Global, row: &Notifier, id: u64) -> Result<Notifier, AllocError>
     requires { row.now.popped < 2 ^ 63 }
-    ensures { IfOk result (λ r. r ≡ (if row.now.id == id then record row.now { popped = row.now.popped + 1 } else row.now)) }
+    ensures { IfOk result
+        (λ r. r ≡ (if row.now.id == id then record row.now { popped = row.now.popped + 1 }
+        else row.now)) }
 {
     let copied = copy_notifier(alloc, row)?;
     Ok(if row.id == id {

@@ -122,7 +122,8 @@ fn read_by(alloc: Global, value: &Tuple, r: &Request) -> Result<Request, AllocEr
 }
 
 fn answered_with(alloc: Global, value: &Tuple, r: &Request) -> Result<Request, AllocError>
-    ensures { IfOk result (λ q. q ≡ in_state (RequestState.Answered (Out.Answer (value_of_spec value.now))) r.now) }
+    ensures { IfOk result
+        (λ q. q ≡ in_state (RequestState.Answered (Out.Answer (value_of_spec value.now))) r.now) }
 {
     let answer = value.to_value(alloc)?;
     let copied = copy_request(alloc, r)?;

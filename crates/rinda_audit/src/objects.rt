@@ -54,14 +54,18 @@ impl Replay {
     fn pop_first(&mut self, alloc: Global, n: &Notifier, event: Value) -> Result<Out, AllocError>
         requires listed { notifier_at_spec self.old n.now.id ≡ Some n.now }
         requires left { n.now.popped < length self.old.events }
-        ensures { IfOk result (λ o. Is o self.new (answers (with_notifier n.now.id (λ m. record m { popped = m.popped + 1 }) self.old) (Out.Event event))) }
+        ensures { IfOk result
+            (λ o. Is o self.new (answers
+            (with_notifier n.now.id (λ m. record m { popped = m.popped + 1 }) self.old)
+            (Out.Event event))) }
     {
         self.pop_next(alloc, n)?;
         Ok(Out::Event(event))
     }
 
     fn pop_empty(&mut self, alloc: Global, nothing: &Out, n: &Notifier) -> Result<Out, AllocError>
-        ensures { IfOk result (λ o. Is o self.new (pop_empty_spec self.old n.now nothing.now n.now.state)) }
+        ensures { IfOk result
+            (λ o. Is o self.new (pop_empty_spec self.old n.now nothing.now n.now.state)) }
     {
         match n.state {
             Hearing::Running => nothing.copy(alloc),
@@ -79,7 +83,8 @@ impl Replay {
         found: &Found,
     ) -> Result<Out, AllocError>
         requires { Listed self.old (seen found.now) }
-        ensures { IfOk result (λ o. Is o self.new (withdraw_spec self.old caller (seen found.now))) }
+        ensures { IfOk result
+            (λ o. Is o self.new (withdraw_spec self.old caller (seen found.now))) }
     {
         match found {
             Found::TheRequest(r) => {
@@ -98,7 +103,8 @@ impl Replay {
     }
 
     fn withdraw_request(&mut self, alloc: Global, r: &Request) -> Result<Out, AllocError>
-        ensures { IfOk result (λ o. Is o self.new (withdraw_request_spec self.old r.now r.now.state)) }
+        ensures { IfOk result
+            (λ o. Is o self.new (withdraw_request_spec self.old r.now r.now.state)) }
     {
         match &r.state {
             RequestState::Reserved => {
@@ -180,7 +186,8 @@ impl Replay {
         renewer: Option<Remote>,
         found: &Found,
     ) -> Result<Out, AllocError>
-        ensures { IfOk result (λ o. Is o self.new (renew_with_spec self.old deadline renewer (seen found.now))) }
+        ensures { IfOk result
+            (λ o. Is o self.new (renew_with_spec self.old deadline renewer (seen found.now))) }
     {
         match found {
             Found::TheRequest(r) => {
@@ -208,7 +215,8 @@ impl Replay {
         renewer: Option<Remote>,
         r: &Request,
     ) -> Result<(), AllocError>
-        ensures { OnOk result (self.new ≡ renew_request_spec self.old deadline renewer r.now r.now.state) }
+        ensures { OnOk result
+            (self.new ≡ renew_request_spec self.old deadline renewer r.now r.now.state) }
     {
         match &r.state {
             RequestState::Reserved => self.lease_request(alloc, r.id, deadline, renewer),
@@ -225,7 +233,8 @@ impl Replay {
         renewer: Option<Remote>,
         n: &Notifier,
     ) -> Result<(), AllocError>
-        ensures { OnOk result (self.new ≡ renew_notifier_spec self.old deadline renewer n.now n.now.state) }
+        ensures { OnOk result
+            (self.new ≡ renew_notifier_spec self.old deadline renewer n.now n.now.state) }
     {
         match n.state {
             Hearing::Running => self.lease_notifier(alloc, n.id, deadline, renewer),
@@ -257,7 +266,8 @@ impl Replay {
         deadline: Option<u64>,
         renewer: Option<Remote>,
     ) -> Result<(), AllocError>
-        ensures { OnOk result (self.new ≡ with_request id (renewed_request deadline renewer) self.old) }
+        ensures { OnOk result
+            (self.new ≡ with_request id (renewed_request deadline renewer) self.old) }
     {
         let change = RequestChange::Renew(deadline, renewer);
         let done = self.change_request(alloc, id, &change);
@@ -273,7 +283,8 @@ impl Replay {
         deadline: Option<u64>,
         renewer: Option<Remote>,
     ) -> Result<(), AllocError>
-        ensures { OnOk result (self.new ≡ with_notifier id (renewed_notifier deadline renewer) self.old) }
+        ensures { OnOk result
+            (self.new ≡ with_notifier id (renewed_notifier deadline renewer) self.old) }
     {
         let change = NotifierChange::Renew(deadline, renewer);
         let done = self.change_notifier(alloc, id, &change);
@@ -355,7 +366,10 @@ impl Replay {
         deadline: Option<u64>,
         t: &Entry,
     ) -> Result<(), AllocError>
-        ensures { OnOk result (self.new ≡ with_tuple t.now.id (renewed_tuple deadline (renewer_of_spec deadline t.now.renewer self.old.clock)) self.old) }
+        ensures { OnOk result
+            (self.new ≡ with_tuple t.now.id
+            (renewed_tuple deadline (renewer_of_spec deadline t.now.renewer self.old.clock))
+            self.old) }
     {
         let renewer = renewer_for(alloc, deadline, &t.renewer, self.clock)?;
         self.lease_tuple(alloc, t.id, deadline, renewer)
@@ -382,7 +396,10 @@ impl Replay {
         deadline: Option<u64>,
         r: &Request,
     ) -> Result<(), AllocError>
-        ensures { OnOk result (self.new ≡ with_request r.now.id (renewed_request deadline (renewer_of_spec deadline r.now.renewer self.old.clock)) self.old) }
+        ensures { OnOk result
+            (self.new ≡ with_request r.now.id
+            (renewed_request deadline (renewer_of_spec deadline r.now.renewer self.old.clock))
+            self.old) }
     {
         let renewer = renewer_for(alloc, deadline, &r.renewer, self.clock)?;
         self.lease_request(alloc, r.id, deadline, renewer)
@@ -409,7 +426,10 @@ impl Replay {
         deadline: Option<u64>,
         n: &Notifier,
     ) -> Result<(), AllocError>
-        ensures { OnOk result (self.new ≡ with_notifier n.now.id (renewed_notifier deadline (renewer_of_spec deadline n.now.renewer self.old.clock)) self.old) }
+        ensures { OnOk result
+            (self.new ≡ with_notifier n.now.id
+            (renewed_notifier deadline (renewer_of_spec deadline n.now.renewer self.old.clock))
+            self.old) }
     {
         let renewer = renewer_for(alloc, deadline, &n.renewer, self.clock)?;
         self.lease_notifier(alloc, n.id, deadline, renewer)

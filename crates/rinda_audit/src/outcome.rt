@@ -36,7 +36,8 @@ impl Replay {
         choice: &Option<Entry>,
     ) -> Result<Out, AllocError>
         requires room { HasRoom self.old event.now }
-        ensures { IfOk result (λ o. Is o self.new (outcome_spec self.old caller event.now choice.now)) }
+        ensures { IfOk result
+            (λ o. Is o self.new (outcome_spec self.old caller event.now choice.now)) }
     {
         match event {
             Event::Write { value, lease } => self.write(alloc, value, lease),
@@ -76,7 +77,9 @@ impl Replay {
         id: u64,
         choice: &Option<Entry>,
     ) -> Result<Out, AllocError>
-        ensures { IfOk result (λ o. Is o self.new (on_own self.old caller (λ r. submit_spec self.old r choice.now r.state) (found_spec self.old id))) }
+        ensures { IfOk result
+            (λ o. Is o self.new (on_own self.old caller
+            (λ r. submit_spec self.old r choice.now r.state) (found_spec self.old id))) }
     {
         let found = self.found(alloc, id)?;
         let out = self.on_submit(alloc, caller, &found, choice);
@@ -85,7 +88,9 @@ impl Replay {
     }
 
     fn collect_at(&mut self, alloc: Global, caller: u64, id: u64) -> Result<Out, AllocError>
-        ensures { IfOk result (λ o. Is o self.new (on_own self.old caller (λ r. collect_spec self.old r r.state) (found_spec self.old id))) }
+        ensures { IfOk result
+            (λ o. Is o self.new (on_own self.old caller (λ r. collect_spec self.old r r.state)
+            (found_spec self.old id))) }
     {
         let found = self.found(alloc, id)?;
         let out = self.on_collect(alloc, caller, &found);
@@ -100,7 +105,9 @@ impl Replay {
         id: u64,
         ok: bool,
     ) -> Result<Out, AllocError>
-        ensures { IfOk result (λ o. Is o self.new (on_own self.old caller (λ r. settle_spec self.old r ok r.state) (found_spec self.old id))) }
+        ensures { IfOk result
+            (λ o. Is o self.new (on_own self.old caller (λ r. settle_spec self.old r ok r.state)
+            (found_spec self.old id))) }
     {
         let found = self.found(alloc, id)?;
         let out = self.on_settle(alloc, caller, &found, ok);
@@ -109,7 +116,8 @@ impl Replay {
     }
 
     fn withdraw_at(&mut self, alloc: Global, caller: u64, id: u64) -> Result<Out, AllocError>
-        ensures { IfOk result (λ o. Is o self.new (withdraw_spec self.old caller (found_spec self.old id))) }
+        ensures { IfOk result
+            (λ o. Is o self.new (withdraw_spec self.old caller (found_spec self.old id))) }
     {
         let found = self.found(alloc, id)?;
         let out = self.withdraw(alloc, caller, &found);
@@ -154,7 +162,8 @@ impl Replay {
     }
 
     fn renew(&mut self, alloc: Global, id: u64, lease: &Lease) -> Result<Out, AllocError>
-        ensures { IfOk result (λ o. Is o self.new (renew_spec self.old lease.now (found_spec self.old id))) }
+        ensures { IfOk result
+            (λ o. Is o self.new (renew_spec self.old lease.now (found_spec self.old id))) }
     {
         let found = self.found(alloc, id)?;
         let out = self.renew_found(alloc, lease, &found);
@@ -168,7 +177,8 @@ impl Replay {
         lease: &Lease,
         found: &Found,
     ) -> Result<Out, AllocError>
-        ensures { IfOk result (λ o. Is o self.new (renew_spec self.old lease.now (seen found.now))) }
+        ensures { IfOk result
+            (λ o. Is o self.new (renew_spec self.old lease.now (seen found.now))) }
     {
         let deadline = deadline(&lease.life, self.clock);
         let renewer = renewer_for(alloc, deadline, &lease.renewer, self.clock)?;
@@ -176,7 +186,9 @@ impl Replay {
     }
 
     fn asked(&mut self, alloc: Global, id: u64, life: &Life) -> Result<Out, AllocError>
-        ensures { IfOk result (λ o. Is o self.new (told self.old (deadline_spec life.now self.old.clock) (found_spec self.old id))) }
+        ensures { IfOk result
+            (λ o. Is o self.new (told self.old (deadline_spec life.now self.old.clock)
+            (found_spec self.old id))) }
     {
         let found = self.found(alloc, id)?;
         let deadline = deadline(life, self.clock);
@@ -193,7 +205,8 @@ impl Replay {
         lease: &Lease,
     ) -> Result<Out, AllocError>
         requires { self.old.shut ≡ false → self.old.next < 2 ^ 64 }
-        ensures { IfOk result (λ o. Is o self.new (notify_spec self.old event.now pattern.now lease.now)) }
+        ensures { IfOk result
+            (λ o. Is o self.new (notify_spec self.old event.now pattern.now lease.now)) }
     {
         if self.shut {
             return Ok(Out::Shut);
@@ -246,7 +259,9 @@ fn all_of(
     pattern: &Template,
     tuples: &[Entry],
 ) -> Result<Items<Value>, AllocError>
-    ensures { IfOk result (λ all. all ≡ map (λ t. value_of_spec t.value) (filter (λ t. matches_spec pattern.now t.value && is_live_spec now t) tuples.now)) }
+    ensures { IfOk result
+        (λ all. all ≡ map (λ t. value_of_spec t.value)
+        (filter (λ t. matches_spec pattern.now t.value && is_live_spec now t) tuples.now)) }
 {
     let mut all = Items::new(alloc);
     for t in tuples {

@@ -52,7 +52,9 @@ fn since(events: &[Raised], since: u64) -> &[Raised]
 
 /// The first of the events that the notifier hears, after those that were popped.
 fn first_heard(alloc: Global, n: &Notifier, events: &[Raised]) -> Result<Option<Value>, AllocError>
-    ensures { IfOk result (λ v. v ≡ option_map event_value_spec (first (drop n.now.popped (filter (hears_spec n.now) events.now)))) }
+    ensures { IfOk result
+        (λ v. v ≡ option_map event_value_spec
+        (first (drop n.now.popped (filter (hears_spec n.now) events.now)))) }
 {
     let mut left = n.popped;
     for e in events {

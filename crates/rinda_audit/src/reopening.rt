@@ -59,7 +59,8 @@ impl Replay {
 
     /// The tuple is let go, where it is held.
     fn let_go_held(&mut self, alloc: Global, t: &Entry) -> Result<(), AllocError>
-        ensures { OnOk result (self.new ≡ (if is_free_spec t.now then self.old else let_go_spec t.now self.old)) }
+        ensures { OnOk result
+            (self.new ≡ (if is_free_spec t.now then self.old else let_go_spec t.now self.old)) }
     {
         if is_free(t) {
             Ok(())

@@ -85,7 +85,8 @@ impl Replay {
         lease: &Lease,
     ) -> Result<Out, AllocError>
         requires { self.old.shut ≡ false → self.old.next < 2 ^ 64 }
-        ensures { IfOk result (λ o. Is o self.new (reserve_spec self.old caller kind pattern.now lease.now)) }
+        ensures { IfOk result
+            (λ o. Is o self.new (reserve_spec self.old caller kind pattern.now lease.now)) }
     {
         if self.shut {
             return Ok(Out::Shut);
@@ -105,7 +106,9 @@ impl Replay {
         found: &Found,
         choice: &Option<Entry>,
     ) -> Result<Out, AllocError>
-        ensures { IfOk result (λ o. Is o self.new (on_own self.old caller (λ r. submit_spec self.old r choice.now r.state) (seen found.now))) }
+        ensures { IfOk result
+            (λ o. Is o self.new (on_own self.old caller
+            (λ r. submit_spec self.old r choice.now r.state) (seen found.now))) }
     {
         match found {
             Found::TheRequest(r) => {
@@ -129,7 +132,8 @@ impl Replay {
         r: &Request,
         choice: &Option<Entry>,
     ) -> Result<Out, AllocError>
-        ensures { IfOk result (λ o. Is o self.new (submit_spec self.old r.now choice.now r.now.state)) }
+        ensures { IfOk result
+            (λ o. Is o self.new (submit_spec self.old r.now choice.now r.now.state)) }
     {
         match &r.state {
             RequestState::Reserved => self.submit_matched(alloc, r, choice),
@@ -157,7 +161,8 @@ impl Replay {
     }
 
     fn collect_served(&mut self, alloc: Global, r: &Request, t: &Entry) -> Result<Out, AllocError>
-        ensures { IfOk result (λ o. Is o self.new (collect_served_spec self.old r.now t.now r.now.kind)) }
+        ensures { IfOk result
+            (λ o. Is o self.new (collect_served_spec self.old r.now t.now r.now.kind)) }
     {
         match r.kind {
             Kind::Read => {
@@ -194,7 +199,9 @@ impl Replay {
         caller: u64,
         found: &Found,
     ) -> Result<Out, AllocError>
-        ensures { IfOk result (λ o. Is o self.new (on_own self.old caller (λ r. collect_spec self.old r r.state) (seen found.now))) }
+        ensures { IfOk result
+            (λ o. Is o self.new (on_own self.old caller (λ r. collect_spec self.old r r.state)
+            (seen found.now))) }
     {
         match found {
             Found::TheRequest(r) => {
@@ -245,7 +252,9 @@ impl Replay {
         found: &Found,
         ok: bool,
     ) -> Result<Out, AllocError>
-        ensures { IfOk result (λ o. Is o self.new (on_own self.old caller (λ r. settle_spec self.old r ok r.state) (seen found.now))) }
+        ensures { IfOk result
+            (λ o. Is o self.new (on_own self.old caller (λ r. settle_spec self.old r ok r.state)
+            (seen found.now))) }
     {
         match found {
             Found::TheRequest(r) => {
@@ -279,7 +288,8 @@ impl Replay {
     }
 
     fn settle_tuple(&mut self, alloc: Global, ok: bool, tuple: u64) -> Result<(), AllocError>
-        ensures { OnOk result (self.new ≡ settle_tuple_spec ok (tuple_at_spec self.old tuple) self.old) }
+        ensures { OnOk result
+            (self.new ≡ settle_tuple_spec ok (tuple_at_spec self.old tuple) self.old) }
     {
         match self.tuple_at(alloc, tuple)? {
             None => Ok(()),

@@ -99,7 +99,9 @@ impl Replay {
     }
 
     fn answer_with(&mut self, alloc: Global, id: u64, tuple: &Tuple) -> Result<(), AllocError>
-        ensures { OnOk result (self.new ≡ request_in_spec id (RequestState.Answered (Out.Answer (value_of_spec tuple.now))) self.old) }
+        ensures { OnOk result
+            (self.new ≡ request_in_spec id
+            (RequestState.Answered (Out.Answer (value_of_spec tuple.now))) self.old) }
     {
         let answer = RequestState::Answered(Out::Answer(tuple.to_value(alloc)?));
         self.request_in(alloc, id, answer)
@@ -119,7 +121,8 @@ impl Replay {
     }
 
     fn serve_row(&mut self, alloc: Global, r: &Request, tuple: u64) -> Result<(), AllocError>
-        ensures { OnOk result (self.new ≡ served_rows self.old (Some r.now) (tuple_at_spec self.old tuple)) }
+        ensures { OnOk result
+            (self.new ≡ served_rows self.old (Some r.now) (tuple_at_spec self.old tuple)) }
     {
         match self.tuple_at(alloc, tuple)? {
             None => Ok(()),

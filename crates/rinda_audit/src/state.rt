@@ -38,7 +38,17 @@ impl Model for Replay {
 
     ghost coded = { Prim.hlevel (codes, e.the_row.coded) };
 
-    ghost view = { λ s. record { clock = s.clock; next = s.next; shut = s.shut; tuples = s.tuples.items; requests = s.requests.items; notifiers = s.notifiers.items; events = s.events.items; ended = s.ended.items } };
+    ghost view = { λ s. record {
+      clock = s.clock;
+      next = s.next;
+      shut = s.shut;
+      tuples = s.tuples.items;
+      requests = s.requests.items;
+      notifiers =
+          s.notifiers.items;
+      events = s.events.items;
+      ended = s.ended.items;
+    } };
 
     ghost invariant = { λ s. Counted s.next s.notifiers.items s.events.items };
 }
@@ -123,7 +133,8 @@ impl Replay {
 
     /// What the id names where it names nothing that is in the space.
     fn found_ended(&self, id: u64) -> Found
-        ensures { seen result ≡ found_among_spec self.now id None None None (ended_at_spec self.now id) }
+        ensures { seen result
+            ≡ found_among_spec self.now id None None None (ended_at_spec self.now id) }
     {
         match self.ended_at(id) {
             Some(e) => Found::HasEnded(e.kind, e.last),
@@ -186,7 +197,8 @@ impl Replay {
     pub(crate) fn pop_next(&mut self, alloc: Global, n: &Notifier) -> Result<(), AllocError>
         requires listed { notifier_at_spec self.old n.now.id ≡ Some n.now }
         requires left { n.now.popped < length self.old.events }
-        ensures { OnOk result (self.new ≡ with_notifier n.now.id (λ m. record m { popped = m.popped + 1 }) self.old) }
+        ensures { OnOk result
+            (self.new ≡ with_notifier n.now.id (λ m. record m { popped = m.popped + 1 }) self.old) }
     {
         let rows = self.notifiers.as_slice();
         let popped = changes::popped_notifiers(alloc, rows, n.id)?;

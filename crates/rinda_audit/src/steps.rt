@@ -27,7 +27,8 @@ impl Replay {
     /// Source: docs/SPACE.md, Phases and Nothing.
     pub fn step(&mut self, alloc: Global, turn: &Turn) -> Result<bool, AllocError>
         ensures yes { IfOk result (λ b. IsTrue b ↔ IsStep self.old turn.now) }
-        ensures next { IfOk result (λ b. self.new ≡ (if b then after self.old turn.now else self.old)) }
+        ensures next { IfOk result
+            (λ b. self.new ≡ (if b then after self.old turn.now else self.old)) }
         ensures err { OnErr result (self.new ≡ self.old) }
     {
         let mut next = self.copy(alloc)?;
@@ -75,8 +76,16 @@ impl Replay {
         picks: &[Pick],
     ) -> Result<bool, AllocError>
         requires room { HasRoom self.old event.now }
-        ensures fits { IfOk result (λ b. IsTrue b ↔ (IsTrue (picks_fit_case self.old caller event.now (chooser_spec self.old caller event.now) picks.now) × (out.now ≡ (case_with self.old caller event.now (chooser_spec self.old caller event.now) picks.now).out))) }
-        ensures after { IfOk result (λ b. IsTrue b → self.new ≡ (case_with self.old caller event.now (chooser_spec self.old caller event.now) picks.now).after) }
+        ensures fits { IfOk result
+            (λ b. IsTrue b ↔ (IsTrue
+            (picks_fit_case self.old caller event.now (chooser_spec self.old caller event.now)
+            picks.now) × (out.now
+            ≡ (case_with self.old caller event.now (chooser_spec self.old caller event.now)
+            picks.now).out))) }
+        ensures after { IfOk result
+            (λ b. IsTrue b → self.new
+            ≡ (case_with self.old caller event.now (chooser_spec self.old caller event.now)
+            picks.now).after) }
     {
         match self.chooser(alloc, caller, event)? {
             None => self.play_on(alloc, caller, event, &None, out, picks),
@@ -95,8 +104,13 @@ impl Replay {
         picks: &[Pick],
     ) -> Result<bool, AllocError>
         requires room { HasRoom self.old event.now }
-        ensures fits { IfOk result (λ b. IsTrue b ↔ (IsTrue (picks_fit_case self.old caller event.now (Some r.now) picks.now) × (out.now ≡ (case_with self.old caller event.now (Some r.now) picks.now).out))) }
-        ensures after { IfOk result (λ b. IsTrue b → self.new ≡ (case_with self.old caller event.now (Some r.now) picks.now).after) }
+        ensures fits { IfOk result
+            (λ b. IsTrue b ↔ (IsTrue
+            (picks_fit_case self.old caller event.now (Some r.now) picks.now)
+            × (out.now ≡ (case_with self.old caller event.now (Some r.now) picks.now).out))) }
+        ensures after { IfOk result
+            (λ b. IsTrue b → self.new
+            ≡ (case_with self.old caller event.now (Some r.now) picks.now).after) }
     {
         match picks {
             [] => Ok(false),
@@ -121,8 +135,13 @@ impl Replay {
         picks: &[Pick],
     ) -> Result<bool, AllocError>
         requires room { HasRoom self.old event.now }
-        ensures fits { IfOk result (λ b. IsTrue b ↔ (IsTrue (picks_serve (aged_spec (outcome_spec self.old caller event.now choice.now).after) picks.now) × (out.now ≡ (outcome_spec self.old caller event.now choice.now).out))) }
-        ensures after { IfOk result (λ b. IsTrue b → self.new ≡ (case_after self.old caller event.now choice.now picks.now).after) }
+        ensures fits { IfOk result
+            (λ b. IsTrue b ↔ (IsTrue
+            (picks_serve (aged_spec (outcome_spec self.old caller event.now choice.now).after)
+            picks.now) × (out.now ≡ (outcome_spec self.old caller event.now choice.now).out))) }
+        ensures after { IfOk result
+            (λ b. IsTrue b → self.new
+            ≡ (case_after self.old caller event.now choice.now picks.now).after) }
     {
         if !self.tells(alloc, caller, event, choice, out)? {
             return Ok(false);
@@ -141,8 +160,10 @@ impl Replay {
         out: &Out,
     ) -> Result<bool, AllocError>
         requires room { HasRoom self.old event.now }
-        ensures out { IfOk result (λ b. IsTrue b ↔ (out.now ≡ (outcome_spec self.old caller event.now choice.now).out)) }
-        ensures after { IfOk result (λ _. self.new ≡ (outcome_spec self.old caller event.now choice.now).after) }
+        ensures out { IfOk result
+            (λ b. IsTrue b ↔ (out.now ≡ (outcome_spec self.old caller event.now choice.now).out)) }
+        ensures after { IfOk result
+            (λ _. self.new ≡ (outcome_spec self.old caller event.now choice.now).after) }
     {
         let told = self.outcome(alloc, caller, event, choice)?;
         let same = is_same_out(out, &told);

@@ -21,12 +21,14 @@ turns_of (e ∷ events) [] = []
 turns_of (e ∷ events) (a ∷ answers) = made e.0.0 e.0.1 e.1 a.0 a.1 ∷ turns_of events answers
 
 -- the turns after the next commit
-abbrev pub ahead_of : Bool → List Happened → List Answered → List Happened → List Answered → List Turn
+abbrev pub ahead_of : Bool → List Happened → List Answered → List Happened → List Answered →
+    List Turn
 ahead_of ready events answers next_events next_answers =
     if ready then turns_of next_events next_answers else turns_of events answers
 
 -- So many turns there are, and with the one that was prepared, if one was, not more than the cap.
-pub record Counts (count cap : ℕ) (ready : Bool) (events : List Happened) (answers : List Answered) (next_events : List Happened) (next_answers : List Answered) : Type 0 where
+pub record Counts (count cap : ℕ) (ready : Bool) (events : List Happened) (answers : List Answered)
+    (next_events : List Happened) (next_answers : List Answered) : Type 0 where
   pub events_are : length events ≡ count
   pub answers_are : length answers ≡ count
   pub within : count + (if ready then 1 else 0) ≤ cap

@@ -27,9 +27,16 @@ impl Model for Counted {
 
     ghost coded = { Prim.hlevel (codes, e.the_row.coded) };
 
-    ghost view = { λ j. record { turns = turns_of j.events.items j.answers.items; ahead = ahead_of j.ready j.events.items j.answers.items j.next_events.items j.next_answers.items; cap = j.cap } };
+    ghost view = { λ j. record {
+      turns = turns_of j.events.items j.answers.items;
+      ahead = ahead_of j.ready j.events.items j.answers.items j.next_events.items
+          j.next_answers.items;
+      cap = j.cap;
+    } };
 
-    ghost invariant = { λ j. Counts j.count j.cap j.ready j.events.items j.answers.items j.next_events.items j.next_answers.items };
+    ghost invariant = { λ j.
+        Counts j.count j.cap j.ready j.events.items j.answers.items j.next_events.items
+        j.next_answers.items };
 }
 
 impl Counted {

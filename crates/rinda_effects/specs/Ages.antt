@@ -15,7 +15,8 @@ NothingAges = (s : Plain) → nothing_due s ≡ true → aged s ≡ s
 
 -- Where nothing is due at the reading, the event finds the space as it was, but for the clock.
 abbrev pub QuietIsFound : Type 0
-QuietIsFound = (s : Plain) (at : ℕ) → nothing_due (advanced s at) ≡ true → found_by s at ≡ advanced s at
+QuietIsFound = (s : Plain) (at : ℕ) → nothing_due (advanced s at) ≡ true →
+    found_by s at ≡ advanced s at
 
 -- the row is doubted, or its deadline is later
 abbrev pub lasts : ℕ → Doubt → Option ℕ → Bool
@@ -25,11 +26,13 @@ lasts now doubt deadline = is_doubted doubt || not (is_over now deadline)
 abbrev pub all_last : ℕ → Plain → Bool
 all_last now s =
     list_all (λ t. lasts now t.doubt t.deadline) s.tuples
-    && (list_all (λ r. lasts now r.doubt r.deadline) s.requests && list_all (λ n. lasts now n.doubt n.deadline) s.notifiers)
+    && (list_all (λ r. lasts now r.doubt r.deadline) s.requests
+    && list_all (λ n. lasts now n.doubt n.deadline) s.notifiers)
 
 -- Where each deadline without a doubt is later than the larger of now and the reading, nothing is due then.
 abbrev pub LaterIsNotDue : Type 0
-LaterIsNotDue = (s : Plain) (at : ℕ) → all_last (max s.clock at) s ≡ true → nothing_due (advanced s at) ≡ true
+LaterIsNotDue = (s : Plain) (at : ℕ) → all_last (max s.clock at) s ≡ true →
+    nothing_due (advanced s at) ≡ true
 
 -- the rows with these ids changed, one after another
 abbrev pub changed_all : {R : Type 0} → (R → ℕ) → (R → R) → List ℕ → List R → List R
@@ -43,11 +46,13 @@ without_all key (id ∷ ids) rows = without_all key ids (without key id rows)
 
 -- each row that passes the test is among these
 abbrev pub has_all : {R : Type 0} → (R → ℕ) → (R → Bool) → List ℕ → List R → Bool
-has_all key test ids rows = list_all (λ row. not (test row) || list_any (λ id. id == key row) ids) rows
+has_all key test ids rows =
+    list_all (λ row. not (test row) || list_any (λ id. id == key row) ids) rows
 
 -- each row that is among these passes the test
 abbrev pub has_only : {R : Type 0} → (R → ℕ) → (R → Bool) → List ℕ → List R → Bool
-has_only key test ids rows = list_all (λ row. test row || not (list_any (λ id. id == key row) ids)) rows
+has_only key test ids rows =
+    list_all (λ row. test row || not (list_any (λ id. id == key row) ids)) rows
 
 -- The ids of all rows that are due. Those of the tuples that expire are of no other tuple; the rest may name rows that
 -- are not due.
@@ -65,7 +70,8 @@ DueRowsAge = (s : Plain) (gone doubted requests notifiers : List ℕ) →
       clock = s.clock;
       next = s.next;
       shut = s.shut;
-      tuples = changed_all (λ t. t.id) (aged_tuple s.clock) doubted (without_all (λ t. t.id) gone s.tuples);
+      tuples = changed_all (λ t. t.id) (aged_tuple s.clock) doubted
+          (without_all (λ t. t.id) gone s.tuples);
       requests = changed_all (λ r. r.id) (aged_request s.clock) requests s.requests;
       notifiers = changed_all (λ n. n.id) (aged_notifier s) notifiers s.notifiers;
       events = s.events ++ map deleted (filter (expires s.clock) s.tuples);

@@ -122,7 +122,8 @@ CaseAnswers = (s : Plain) (caller : ℕ) (event : Event) (choice : Option Entry)
 
 -- So does a step.
 abbrev pub StepAnswers : Type 0
-StepAnswers = (s : Plain) (caller at : ℕ) (event : Event) (out : Out) (picks : List Pick) (s' : Plain) →
+StepAnswers = (s : Plain) (caller at : ℕ) (event : Event) (out : Out) (picks : List Pick)
+    (s' : Plain) →
     Sound s → Step s caller at event out picks s' → may_answer event out ≡ true
 
 -- When an event is nothing.
@@ -141,4 +142,5 @@ abbrev pub NothingIsNotYet : Type 0
 NothingIsNotYet = (s : Plain) (caller at : ℕ) (event : Event) (choice : Option Entry) →
     Sound s →
     is_nothing s caller at event
-    ≡ (nothing_due (advanced s at) && (is_tick event || is_not_yet (outcome (advanced s at) caller event choice).out))
+    ≡ (nothing_due (advanced s at)
+    && (is_tick event || is_not_yet (outcome (advanced s at) caller event choice).out))

@@ -45,7 +45,8 @@ CaseLeavesOneDue = (s : Plain) (caller : ℕ) (event : Event) (choice : Option E
 
 -- Where at most that one row is due, aging changes it alone.
 abbrev pub OneAges : Type 0
-OneAges = (s : Plain) (id : ℕ) → Sound s → due_only (Some id) s ≡ true → aged s ≡ age_found s (found s id)
+OneAges = (s : Plain) (id : ℕ) → Sound s → due_only (Some id) s ≡ true →
+    aged s ≡ age_found s (found s id)
 
 -- Where nothing is due at the reading, and the event's own case leaves nothing due, the turn doesn't age.
 abbrev pub QuietIsUnserved : Type 0

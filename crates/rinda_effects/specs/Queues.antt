@@ -16,7 +16,8 @@ use Rattle.rinda_rules.specs.Sound.{hears_within}
 abbrev pub RaisedIsQueued : Type 0
 RaisedIsQueued = (n : Notifier) (events more : List Raised) →
     hears_within events n ≡ true →
-    queue n (events ++ more) ≡ queue n events ++ (if is_running n.state then filter (hears n) more else [])
+    queue n (events ++ more)
+    ≡ queue n events ++ (if is_running n.state then filter (hears n) more else [])
 
 -- A pop takes the first one.
 abbrev pub PopDropsOne : Type 0
@@ -26,13 +27,15 @@ PopDropsOne = (n : Notifier) (events rest : List Raised) (e : Raised) →
 -- A notifier that is closed keeps its queue, whatever is raised later.
 abbrev pub CloseKeepsQueue : Type 0
 CloseKeepsQueue = (n : Notifier) (last : Last) (events later : List Raised) →
-    is_running n.state ≡ true → queue (close_after last (length events) n) (events ++ later) ≡ queue n events
+    is_running n.state ≡ true → queue (close_after last (length events) n) (events ++ later)
+    ≡ queue n events
 
 -- One that is closed after the first so many of what is raised keeps those of them that it hears.
 abbrev pub CloseKeepsEarlier : Type 0
 CloseKeepsEarlier = (n : Notifier) (last : Last) (events more : List Raised) (k : ℕ) →
     is_running n.state ≡ true → hears_within events n ≡ true → k ≤ length more →
-    queue (close_after last (length events + k) n) (events ++ more) ≡ queue n events ++ filter (hears n) (take k more)
+    queue (close_after last (length events + k) n) (events ++ more)
+    ≡ queue n events ++ filter (hears n) (take k more)
 
 -- two notifiers that hear the same, have popped as many, and run or were closed alike
 pub record SameHearing (n m : Notifier) : Type 0 where
@@ -44,7 +47,8 @@ pub record SameHearing (n m : Notifier) : Type 0 where
 
 -- A lease or a doubt changes no queue.
 abbrev pub LeaseKeepsQueue : Type 0
-LeaseKeepsQueue = (n m : Notifier) (events : List Raised) → SameHearing n m → queue m events ≡ queue n events
+LeaseKeepsQueue = (n m : Notifier) (events : List Raised) → SameHearing n m →
+    queue m events ≡ queue n events
 
 -- The queue of a new notifier is empty.
 abbrev pub NewQueueIsEmpty : Type 0

@@ -45,19 +45,23 @@ write_turn s caller at value lease picks = record {
 
 -- A Write that nobody waits to take.
 abbrev pub WriteIsRead : Type 0
-WriteIsRead = (start : Plain) (old : List Turn) (caller at : ℕ) (s : Plain) (value : Tuple) (lease : Lease) →
+WriteIsRead = (start : Plain) (old : List Turn) (caller at : ℕ) (s : Plain) (value : Tuple)
+    (lease : Lease) →
     let t = new_tuple s value lease in
     let w = with_tuple_of s value lease in
     Quiet start old at s → Lasts s value lease → no_taker w t ≡ true →
-    Made start old (write_turn s caller at value lease (picks_of t.id (reader_ids w t))) (read_all t w)
+    Made start old (write_turn s caller at value lease (picks_of t.id (reader_ids w t)))
+    (read_all t w)
 
 -- A Write that a request waits to take or to hold.
 abbrev pub WriteIsTaken : Type 0
-WriteIsTaken = (start : Plain) (old : List Turn) (caller at : ℕ) (s : Plain) (value : Tuple) (lease : Lease) (r : Request) →
+WriteIsTaken = (start : Plain) (old : List Turn) (caller at : ℕ) (s : Plain) (value : Tuple)
+    (lease : Lease) (r : Request) →
     let t = new_tuple s value lease in
     let w = with_tuple_of s value lease in
     let picks = picks_of t.id (reader_ids w t) ++ record { request = r.id; tuple = t.id } ∷ [] in
-    Quiet start old at s → Lasts s value lease → request_at w r.id ≡ Some r → takes w.clock t r ≡ true →
+    Quiet start old at s → Lasts s value lease → request_at w r.id ≡ Some r →
+    takes w.clock t r ≡ true →
     Made start old (write_turn s caller at value lease picks) (served_with r t (read_all t w))
 
 -- The caller's own reserved Take, with a match.
@@ -84,5 +88,7 @@ submitted r t s = request_ended last.Done r.id (served_as kind.Take r t s)
 
 -- A Submit of a Take that has a match.
 abbrev pub SubmitIsTaken : Type 0
-SubmitIsTaken = (start : Plain) (old : List Turn) (caller at : ℕ) (s : Plain) (id : ℕ) (r : Request) (t : Entry) →
-    Quiet start old at s → Submits s caller id r t → Made start old (submit_turn caller at id r t) (submitted r t s)
+SubmitIsTaken = (start : Plain) (old : List Turn) (caller at : ℕ) (s : Plain) (id : ℕ) (r : Request)
+    (t : Entry) →
+    Quiet start old at s → Submits s caller id r t →
+    Made start old (submit_turn caller at id r t) (submitted r t s)

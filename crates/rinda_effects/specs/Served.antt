@@ -13,7 +13,8 @@ use Rattle.rinda_effects.specs.Serves.{Readers, read_row, read_all, picks_of, ta
 
 -- Aging touches no row.
 abbrev pub AgingTouchesNone : Type 0
-AgingTouchesNone = (touched : Touched) (s : Plain) → waits_only touched s ≡ true → waits_only touched (aged s) ≡ true
+AgingTouchesNone = (touched : Touched) (s : Plain) → waits_only touched s ≡ true →
+    waits_only touched (aged s) ≡ true
 
 -- No row is touched: no picks.
 abbrev pub NothingIsServed : Type 0
@@ -22,7 +23,8 @@ NothingIsServed = (s : Plain) → Unserved NoRow s → Serve s [] s
 -- A tuple is touched that isn't there, or isn't live: no picks.
 abbrev pub DeadTupleIsNotServed : Type 0
 DeadTupleIsNotServed = (id : ℕ) (s : Plain) →
-    Unserved (ATuple id) s → ((t : Entry) → tuple_at s id ≡ Some t → is_live s.clock t ≡ false) → Serve s [] s
+    Unserved (ATuple id) s → ((t : Entry) → tuple_at s id ≡ Some t → is_live s.clock t ≡ false) →
+    Serve s [] s
 
 -- A tuple is touched: each request that waits to read it is told, and none waits to take it.
 abbrev pub TupleIsRead : Type 0
@@ -35,17 +37,20 @@ abbrev pub TupleIsTaken : Type 0
 TupleIsTaken = (s : Plain) (t : Entry) (ids : List ℕ) (r : Request) →
     Unserved (ATuple t.id) s → tuple_at s t.id ≡ Some t → Readers s t ids →
     request_at s r.id ≡ Some r → takes s.clock t r ≡ true →
-    Serve s (picks_of t.id ids ++ record { request = r.id; tuple = t.id } ∷ []) (served_with r t (read_all t s))
+    Serve s (picks_of t.id ids ++ record { request = r.id; tuple = t.id } ∷ [])
+    (served_with r t (read_all t s))
 
 -- A request is touched that isn't there, or doesn't wait beside a match: no picks.
 abbrev pub LoneRequestIsNotServed : Type 0
 LoneRequestIsNotServed = (id : ℕ) (s : Plain) →
-    Unserved (ARequest id) s → ((r : Request) → request_at s id ≡ Some r → can_be_served s r ≡ false) → Serve s [] s
+    Unserved (ARequest id) s →
+    ((r : Request) → request_at s id ≡ Some r → can_be_served s r ≡ false) → Serve s [] s
 
 -- A request is touched: it gets a match.
 abbrev pub RequestIsServed : Type 0
 RequestIsServed = (s : Plain) (r : Request) (t : Entry) →
-    Unserved (ARequest r.id) s → request_at s r.id ≡ Some r → tuple_at s t.id ≡ Some t → wants s.clock r t ≡ true →
+    Unserved (ARequest r.id) s → request_at s r.id ≡ Some r → tuple_at s t.id ≡ Some t →
+    wants s.clock r t ≡ true →
     Serve s (record { request = r.id; tuple = t.id } ∷ []) (served_with r t s)
 
 -- The requests that wait to read a tuple, in rising id, are its readers.
@@ -63,7 +68,8 @@ waiting s = length (filter is_waiting s.requests)
 
 -- After a pick one request less waits.
 abbrev pub PickServesOne : Type 0
-PickServesOne = (s : Plain) (pick : Pick) → Sound s → may_serve s pick ≡ true → waiting (served s pick) + 1 ≡ waiting s
+PickServesOne = (s : Plain) (pick : Pick) → Sound s → may_serve s pick ≡ true →
+    waiting (served s pick) + 1 ≡ waiting s
 
 -- the pick gives that tuple, or to that request
 abbrev pub names : Touched → Pick → Bool
@@ -106,4 +112,5 @@ pub record ServedTuple (s : Plain) (t : Entry) (picks : List Pick) (s' : Plain) 
 -- However a tuple that was touched is served, it is served so.
 abbrev pub TupleIsServedSo : Type 0
 TupleIsServedSo = (s : Plain) (t : Entry) (picks : List Pick) (s' : Plain) →
-    Unserved (ATuple t.id) s → tuple_at s t.id ≡ Some t → Serve s picks s' → ServedTuple s t picks s'
+    Unserved (ATuple t.id) s → tuple_at s t.id ≡ Some t → Serve s picks s' →
+    ServedTuple s t picks s'

@@ -59,7 +59,8 @@ once (id ∷ ids) = list_all (λ i. not (i == id)) ids && once ids
 pub record Readers (s : Plain) (t : Entry) (ids : List ℕ) : Type 0 where
   pub distinct : once ids ≡ true
   pub each : list_all (λ id. reads_row s.clock t (request_at s id)) ids ≡ true
-  pub all : list_all (λ r. not (reads s.clock t r) || list_any (λ id. id == r.id) ids) s.requests ≡ true
+  pub all : list_all (λ r. not (reads s.clock t r) || list_any (λ id. id == r.id) ids) s.requests
+      ≡ true
 
 -- nobody waits to take or to hold the tuple
 abbrev pub no_taker : Plain → Entry → Bool

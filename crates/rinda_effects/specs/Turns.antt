@@ -26,7 +26,8 @@ FoundIsSound = (s : Plain) (at : ℕ) →
 
 -- An event's own case that picks nothing keeps a space sound.
 abbrev pub CaseIsSound : Type 0
-CaseIsSound = (s : Plain) (caller : ℕ) (event : Event) → Sound s → Sound (outcome s caller event None).after
+CaseIsSound = (s : Plain) (caller : ℕ) (event : Event) → Sound s →
+    Sound (outcome s caller event None).after
 
 -- So does a Submit that is served at once.
 abbrev pub MatchIsSound : Type 0
@@ -52,12 +53,14 @@ abbrev pub SubmitChooses : Type 0
 SubmitChooses = (s : Plain) (caller id : ℕ) (r : Request) (t : Entry) →
     request_at s id ≡ Some r → r.caller == caller ≡ true → is_reserved r.state ≡ true →
     tuple_at s t.id ≡ Some t → may_have s.clock r t ≡ true →
-    (chooser s caller (Submit id) ≡ Some r) × (is_match s r (record { request = r.id; tuple = t.id }) ≡ true)
+    (chooser s caller (Submit id) ≡ Some r)
+    × (is_match s r (record { request = r.id; tuple = t.id }) ≡ true)
 
 -- A Submit of any other request, or of none, chooses none.
 abbrev pub SubmitChoosesNone : Type 0
 SubmitChoosesNone = (s : Plain) (caller id : ℕ) →
-    ((r : Request) → request_at s id ≡ Some r → (r.caller == caller && (is_reserved r.state && has_match s r)) ≡ false) →
+    ((r : Request) → request_at s id ≡ Some r →
+    (r.caller == caller && (is_reserved r.state && has_match s r)) ≡ false) →
     chooser s caller (Submit id) ≡ None
 
 -- These turns may follow one another from a sound and settled start.
@@ -90,7 +93,8 @@ StepMakesTurn = (start : Plain) (old : List Turn) (turn : Turn) (s : Plain) →
     Made start old turn s
 
 -- An event that isn't nothing comes after these turns, picks nothing in its own case, and touches that.
-pub record Comes (start : Plain) (old : List Turn) (caller at : ℕ) (event : Event) (touched : Touched) : Type 0 where
+pub record Comes (start : Plain) (old : List Turn) (caller at : ℕ) (event : Event)
+    (touched : Touched) : Type 0 where
   pub reached : Reached start old
   pub something : is_nothing (plain_from start old) caller at event ≡ false
   pub chooses : chooser (found_by (plain_from start old) at) caller event ≡ None
@@ -117,7 +121,8 @@ EventMakesTurn = (start : Plain) (old : List Turn) (caller at : ℕ) (event : Ev
 
 -- It touches a tuple, which is live: all that wait to read it do so, and nobody waits to take it.
 abbrev pub ReadMakesTurn : Type 0
-ReadMakesTurn = (start : Plain) (old : List Turn) (caller at : ℕ) (event : Event) (t : Entry) (ids : List ℕ) →
+ReadMakesTurn = (start : Plain) (old : List Turn) (caller at : ℕ) (event : Event) (t : Entry)
+    (ids : List ℕ) →
     let s = left_by start old caller at event in
     Comes start old caller at event (ATuple t.id) →
     tuple_at s t.id ≡ Some t → Readers s t ids → no_taker s t ≡ true →
@@ -125,11 +130,13 @@ ReadMakesTurn = (start : Plain) (old : List Turn) (caller at : ℕ) (event : Eve
 
 -- It touches a tuple: all that wait to read it do so, and then one takes it or holds it.
 abbrev pub TakeMakesTurn : Type 0
-TakeMakesTurn = (start : Plain) (old : List Turn) (caller at : ℕ) (event : Event) (t : Entry) (ids : List ℕ) (r : Request) →
+TakeMakesTurn = (start : Plain) (old : List Turn) (caller at : ℕ) (event : Event) (t : Entry)
+    (ids : List ℕ) (r : Request) →
     let s = left_by start old caller at event in
     let picks = picks_of t.id ids ++ record { request = r.id; tuple = t.id } ∷ [] in
     Comes start old caller at event (ATuple t.id) →
-    tuple_at s t.id ≡ Some t → Readers s t ids → request_at s r.id ≡ Some r → takes s.clock t r ≡ true →
+    tuple_at s t.id ≡ Some t → Readers s t ids → request_at s r.id ≡ Some r →
+    takes s.clock t r ≡ true →
     Made start old (turn_of start old caller at event picks) (served_with r t (read_all t s))
 
 -- It touches a tuple that isn't there after all, or isn't live: no picks.
@@ -150,7 +157,8 @@ LoneMakesTurn = (start : Plain) (old : List Turn) (caller at : ℕ) (event : Eve
 
 -- It touches a request that has a match: one pick.
 abbrev pub ServeMakesTurn : Type 0
-ServeMakesTurn = (start : Plain) (old : List Turn) (caller at : ℕ) (event : Event) (r : Request) (t : Entry) →
+ServeMakesTurn = (start : Plain) (old : List Turn) (caller at : ℕ) (event : Event) (r : Request)
+    (t : Entry) →
     let s = left_by start old caller at event in
     let picks = record { request = r.id; tuple = t.id } ∷ [] in
     Comes start old caller at event (ARequest r.id) →
@@ -175,4 +183,5 @@ MatchMakesTurn = (start : Plain) (old : List Turn) (caller at id : ℕ) (r : Req
 -- From a sound and settled space every event has a step.
 abbrev pub StepExists : Type 0
 StepExists = (s : Plain) (caller at : ℕ) (event : Event) →
-    Sound s → Settled s → (out : Out) × (picks : List Pick) × (s' : Plain) × Step s caller at event out picks s'
+    Sound s → Settled s → (out : Out) × (picks : List Pick) × (s' : Plain)
+    × Step s caller at event out picks s'

@@ -57,7 +57,8 @@ abbrev pub LeavesOnce : Type 0
 LeavesOnce = (start : Plain) (h : List Turn) (id : ℕ) →
     IsStart start → LegalFrom start h →
     Balanced start id (plain_from start h)
-    × (takes id (raised_since start (plain_from start h)) + deletes id (raised_since start (plain_from start h)) ≤ 1)
+    × (takes id (raised_since start (plain_from start h)) + deletes id
+    (raised_since start (plain_from start h)) ≤ 1)
 
 -- An id that was minted and names no tuple never names one again.
 abbrev pub GoneStays : Type 0

@@ -53,7 +53,9 @@ choice_of s (Some r) (pick ∷ picks) = tuple_at s pick.tuple
 
 -- the space as the turn's event leaves it, before it ages again
 abbrev pub left_by : Plain → Turn → Plain
-left_by s turn = (outcome (found_by s turn.at) turn.caller turn.event (choice_of (found_by s turn.at) (chooser (found_by s turn.at) turn.caller turn.event) turn.picks)).after
+left_by s turn = (outcome (found_by s turn.at) turn.caller turn.event
+    (choice_of (found_by s turn.at) (chooser (found_by s turn.at) turn.caller turn.event)
+    turn.picks)).after
 
 -- A turn lets the space age twice: as it comes, and as its event leaves it. In one of the two the request runs out.
 pub data DecidesSo (id : ℕ) (s : Plain) (turn : Turn) : Type 0 where
@@ -79,15 +81,19 @@ pub record SubmitsLate (id : ℕ) (s : Plain) : Type 0 where
 -- Why the last turn of a history is answered Expired: it submits a request that is late; it asks for a request of which
 -- this turn or one before decided so; or it asks for a notifier that has ended.
 pub data ExpiredBecause (start : Plain) (h : List Turn) (turn : Turn) : Type 0 where
-  late : (id : ℕ) → turn.event ≡ Submit id → SubmitsLate id (found_by (plain_from start h) turn.at) → ExpiredBecause start h turn
-  decided : (id : ℕ) → asks_for turn.event ≡ Some id → Decided start id (h ++ turn ∷ []) → ExpiredBecause start h turn
+  late : (id : ℕ) → turn.event ≡ Submit id →
+      SubmitsLate id (found_by (plain_from start h) turn.at) → ExpiredBecause start h turn
+  decided : (id : ℕ) → asks_for turn.event ≡ Some id → Decided start id (h ++ turn ∷ []) →
+      ExpiredBecause start h turn
   ended : (id : ℕ) (last : Last) → asks_for turn.event ≡ Some id →
-      found (found_by (plain_from start h) turn.at) id ≡ HasEnded object.Notifier last → ExpiredBecause start h turn
+      found (found_by (plain_from start h) turn.at) id ≡ HasEnded object.Notifier last →
+      ExpiredBecause start h turn
 
 -- Expired is answered only so.
 abbrev pub ExpiredIsDecided : Type 0
 ExpiredIsDecided = (start : Plain) (h : List Turn) (turn : Turn) →
-    IsStart start → LegalFrom start (h ++ turn ∷ []) → turn.out ≡ out.Expired → ExpiredBecause start h turn
+    IsStart start → LegalFrom start (h ++ turn ∷ []) → turn.out ≡ out.Expired →
+    ExpiredBecause start h turn
 
 -- the event cancels the object with that id: a Cancel of it, or a Shut
 abbrev pub is_cancel : ℕ → Event → Bool
@@ -113,4 +119,5 @@ is_cancel id Shut = true
 abbrev pub CanceledIsNamed : Type 0
 CanceledIsNamed = (start : Plain) (h : List Turn) (turn : Turn) →
     IsStart start → LegalFrom start (h ++ turn ∷ []) → turn.out ≡ out.Canceled →
-    (id : ℕ) × (asks_for turn.event ≡ Some id) × (list_any (λ t. is_cancel id t.event) (h ++ turn ∷ []) ≡ true)
+    (id : ℕ) × (asks_for turn.event ≡ Some id)
+    × (list_any (λ t. is_cancel id t.event) (h ++ turn ∷ []) ≡ true)

@@ -55,17 +55,20 @@ until_close (Closed last until) first events = take (until - first) events
 
 -- A notifier with that event value and that template, registered in the first space, of which so many events were
 -- popped: its queue in the later space.
-pub record HeardSince (event : Tree) (pattern : Template) (first : Plain) (popped : ℕ) (later : Plain) (n : Notifier) : Type 0 where
+pub record HeardSince (event : Tree) (pattern : Template) (first : Plain) (popped : ℕ)
+    (later : Plain) (n : Notifier) : Type 0 where
   pub event_is : n.event ≡ event
   pub pattern_is : n.pattern ≡ pattern
   pub queue_is :
       queue n later.events
-      ≡ drop popped (filter (hears n) (until_close n.state (length first.events) (raised_since first later)))
+      ≡ drop popped (filter (hears n)
+      (until_close n.state (length first.events) (raised_since first later)))
 
 -- From a Notify on, as long as the notifier has a row, running or closed, its queue is exactly the events since then, up
 -- to its close, that it hears, without as many of the first ones as turns since then popped one.
 abbrev pub QueueIsExact : Type 0
-QueueIsExact = (start : Plain) (before later : List Turn) (turn : Turn) (event : Tree) (pattern : Template) (lease : Lease) (id : ℕ) (n : Notifier) →
+QueueIsExact = (start : Plain) (before later : List Turn) (turn : Turn) (event : Tree)
+    (pattern : Template) (lease : Lease) (id : ℕ) (n : Notifier) →
     IsStart start → LegalFrom start (before ++ turn ∷ later) →
     turn.event ≡ Notify event pattern lease → turn.out ≡ out.Notifier id →
     notifier_at (plain_from start (before ++ turn ∷ later)) id ≡ Some n →
@@ -82,7 +85,8 @@ OldQueueIsExact = (start : Plain) (h : List Turn) (id : ℕ) (first n : Notifier
     × (queue n (plain_from start h).events
     ≡ drop (how_many (pops id) h)
     (queue first start.events
-    ++ filter (hears n) (until_close n.state (length start.events) (raised_since start (plain_from start h)))))
+    ++ filter (hears n) (until_close n.state (length start.events)
+    (raised_since start (plain_from start h)))))
 
 -- An asker for the next of a closed notifier whose queue is empty is answered Closed, and never Event or NotYet.
 abbrev pub CloseIsLast : Type 0

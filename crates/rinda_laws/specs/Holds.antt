@@ -42,8 +42,10 @@ is_settle request Shut = false
 abbrev pub HeldIsGranted : Type 0
 HeldIsGranted = (start : Plain) (h : List Turn) (request id : ℕ) →
     IsStart start → LegalFrom start h →
-    (Holds request id (plain_from start h) → (owner : ℕ) × Owns (grants id) owner request (plain_from start h))
-    × ((owner : ℕ) → Owns (grants id) owner request (plain_from start h) → Holds request id (plain_from start h))
+    (Holds request id (plain_from start h) →
+    (owner : ℕ) × Owns (grants id) owner request (plain_from start h))
+    × ((owner : ℕ) → Owns (grants id) owner request (plain_from start h) →
+    Holds request id (plain_from start h))
 
 -- A tuple that is held stays so until the caller of the request that holds it settles.
 abbrev pub HeldStays : Type 0
@@ -57,7 +59,8 @@ HeldStays = (start : Plain) (h : List Turn) (turn : Turn) (owner request id : �
 -- turn names the tuple.
 pub data Settles (request id : ℕ) (turn : Turn) : Type 0 where
   with_yes : turn.event ≡ Settle request true → Settles request id turn
-  with_no : turn.event ≡ Settle request false → list_any (λ pick. pick.tuple == id) turn.picks ≡ true → Settles request id turn
+  with_no : turn.event ≡ Settle request false →
+      list_any (λ pick. pick.tuple == id) turn.picks ≡ true → Settles request id turn
 
 -- A tuple that is held is taken only so.
 abbrev pub HeldIsTakenBySettle : Type 0

@@ -47,7 +47,8 @@ ends_own caller id turn = is_own caller id turn && is_last turn.out
 -- From a Reserve that is answered Reserved on, until the turn of its own caller that ends it, the request is that
 -- caller's, and it begins in the state reserved.
 abbrev pub RequestStays : Type 0
-RequestStays = (start : Plain) (before later : List Turn) (turn : Turn) (kind : Kind) (pattern : Template) (lease : Lease) (id : ℕ) →
+RequestStays = (start : Plain) (before later : List Turn) (turn : Turn) (kind : Kind)
+    (pattern : Template) (lease : Lease) (id : ℕ) →
     IsStart start → LegalFrom start (before ++ turn ∷ later) →
     turn.event ≡ Reserve kind pattern lease → turn.out ≡ out.Reserved id →
     Owns is_reserved turn.caller id (plain_from start (before ++ turn ∷ []))
@@ -58,8 +59,10 @@ RequestStays = (start : Plain) (before later : List Turn) (turn : Turn) (kind : 
 abbrev pub StateStays : Type 0
 StateStays = (start : Plain) (h : List Turn) (turn : Turn) (caller id : ℕ) →
     IsStart start → LegalFrom start (h ++ turn ∷ []) → is_own caller id turn ≡ false →
-    (Owns is_reserved caller id (plain_from start h) → Owns is_reserved caller id (plain_from start (h ++ turn ∷ [])))
-    × ((tuple : ℕ) → Owns (grants tuple) caller id (plain_from start h) → Owns (grants tuple) caller id (plain_from start (h ++ turn ∷ [])))
+    (Owns is_reserved caller id (plain_from start h) →
+    Owns is_reserved caller id (plain_from start (h ++ turn ∷ [])))
+    × ((tuple : ℕ) → Owns (grants tuple) caller id (plain_from start h) →
+    Owns (grants tuple) caller id (plain_from start (h ++ turn ∷ [])))
 
 -- the answers of a Submit of a reserved request
 abbrev pub submits_well : Out → Bool
@@ -75,8 +78,10 @@ submits_well _ = false
 abbrev pub OwnIsAnswered : Type 0
 OwnIsAnswered = (start : Plain) (h : List Turn) (turn : Turn) (id : ℕ) →
     IsStart start → LegalFrom start (h ++ turn ∷ []) →
-    (turn.event ≡ Submit id → Owns is_reserved turn.caller id (plain_from start h) → submits_well turn.out ≡ true)
-    × ((tuple : ℕ) (ok : Bool) → turn.event ≡ Settle id ok → Owns (grants tuple) turn.caller id (plain_from start h) → turn.out ≡ out.Plain)
+    (turn.event ≡ Submit id → Owns is_reserved turn.caller id (plain_from start h) →
+    submits_well turn.out ≡ true)
+    × ((tuple : ℕ) (ok : Bool) → turn.event ≡ Settle id ok →
+    Owns (grants tuple) turn.caller id (plain_from start h) → turn.out ≡ out.Plain)
 
 abbrev pub NeitherIsNothing : Type 0
 NeitherIsNothing = (s : Plain) (caller at id : ℕ) (ok : Bool) →

@@ -25,7 +25,8 @@ aged_tuple now t = if is_due_tuple now t then record t { doubt = doubt.Waiting }
 abbrev pub aged_request : ℕ → Request → Request
 aged_request now r =
     if is_due_request now r
-    then (if is_none r.renewer then record r { state = state.Answered out.Expired } else record r { doubt = doubt.Waiting })
+    then (if is_none r.renewer then record r { state = state.Answered out.Expired }
+    else record r { doubt = doubt.Waiting })
     else r
 
 -- how many tuples of lower id expire
@@ -36,7 +37,10 @@ abbrev pub aged_notifier : Plain → Notifier → Notifier
 aged_notifier s n =
     if is_due_notifier s.clock n
     then (if is_none n.renewer
-    then record n { state = hearing.Closed last.Expired (length s.events + expire_before s.clock n.id s.tuples) }
+    then record n {
+      state = hearing.Closed last.Expired
+          (length s.events + expire_before s.clock n.id s.tuples);
+    }
     else record n { doubt = doubt.Waiting })
     else n
 

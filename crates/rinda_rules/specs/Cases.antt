@@ -67,7 +67,8 @@ new_tuple s value lease = record {
 -- a waiting Read whose pattern matches the tuple is answered with it
 abbrev pub read_by : Tuple → Request → Request
 read_by value r =
-    if is_read r.kind && (is_waiting r && matches r.pattern value) then in_state (state.Answered (out.Answer (value_of value))) r
+    if is_read r.kind && (is_waiting r && matches r.pattern value)
+    then in_state (state.Answered (out.Answer (value_of value))) r
     else r
 
 abbrev pub minted : Plain → Plain
@@ -77,16 +78,19 @@ minted s = record s { next = s.next + 1 }
 abbrev pub written_over : Entry → Plain → Plain
 written_over t s =
     ended object.Entry t.id last.Expired
-    (raised happening.Delete t (raised happening.Write t (record s { requests = map (read_by t.value) s.requests })))
+    (raised happening.Delete t
+    (raised happening.Write t (record s { requests = map (read_by t.value) s.requests })))
 
 abbrev pub written : Entry → Plain → Plain
 written t s = raised happening.Write t (record s { tuples = s.tuples ++ t ∷ [] })
 
 abbrev pub write_tuple : Plain → Entry → Plain
-write_tuple s t = if is_over s.clock t.deadline then written_over t (minted s) else written t (minted s)
+write_tuple s t = if is_over s.clock t.deadline then written_over t (minted s)
+    else written t (minted s)
 
 abbrev pub write : Plain → Tuple → Lease → Outcome
-write s value lease = unless_shut s (answers (write_tuple s (new_tuple s value lease)) (out.Entry s.next))
+write s value lease =
+    unless_shut s (answers (write_tuple s (new_tuple s value lease)) (out.Entry s.next))
 
 -- Reserve.
 
@@ -106,7 +110,10 @@ new_request s caller kind pattern lease = record {
 abbrev pub reserve : Plain → ℕ → Kind → Template → Lease → Outcome
 reserve s caller kind pattern lease =
     unless_shut s
-    (answers (record (minted s) { requests = s.requests ++ new_request s caller kind pattern lease ∷ [] }) (out.Reserved s.next))
+    (answers (record (minted s) {
+      requests = s.requests ++ new_request s caller kind pattern lease
+          ∷ [];
+    }) (out.Reserved s.next))
 
 -- An event that names an object: an id that was never minted is Unknown, and one that ended too long ago is Recycled.
 
@@ -125,13 +132,16 @@ on_own s caller case IsUnknown = answers s out.Unknown
 abbrev pub submit_unmatched : Plain → Request → Outcome
 submit_unmatched s r =
     if r.marked then answers (request_ended last.Canceled r.id s) out.Canceled
-    else (if is_over s.clock r.deadline && is_none r.renewer then answers (request_ended last.Expired r.id s) out.Expired
+    else (if is_over s.clock r.deadline && is_none r.renewer
+    then answers (request_ended last.Expired r.id s) out.Expired
     else answers (request_in r.id state.Parked s) (out.Parked r.id))
 
 -- what a request that was just served with that tuple answers at once
 abbrev pub collect_served : Plain → Request → Entry → Kind → Outcome
-collect_served s r t kind.Read = answers (request_ended last.Done r.id s) (out.Answer (value_of t.value))
-collect_served s r t kind.Take = answers (request_ended last.Done r.id s) (out.Answer (value_of t.value))
+collect_served s r t kind.Read =
+    answers (request_ended last.Done r.id s) (out.Answer (value_of t.value))
+collect_served s r t kind.Take =
+    answers (request_ended last.Done r.id s) (out.Answer (value_of t.value))
 collect_served s r t kind.Move = answers s (out.Granted r.id (value_of t.value))
 
 -- With a match it is served and collected at once.
@@ -168,7 +178,8 @@ collect s r (state.Answered o) = answers (request_ended (last_of o) r.id s) o
 
 -- the tuple that was held is let go, and ends where it was canceled meanwhile
 abbrev pub let_go : Entry → Plain → Plain
-let_go t s = if t.marked then tuple_ended last.Canceled t s else with_tuple t.id (λ t. record t { holder = None }) s
+let_go t s = if t.marked then tuple_ended last.Canceled t s
+    else with_tuple t.id (λ t. record t { holder = None }) s
 
 abbrev pub settle_tuple : Bool → Option Entry → Plain → Plain
 settle_tuple ok None s = s
@@ -178,7 +189,8 @@ settle_tuple false (Some t) s = let_go t s
 abbrev pub settle : Plain → Request → Bool → RequestState → Outcome
 settle s r ok state.Reserved = answers s out.WrongKind
 settle s r ok state.Parked = answers s out.WrongKind
-settle s r ok (state.Granted tuple) = answers (request_ended last.Done r.id (settle_tuple ok (tuple_at s tuple) s)) out.Plain
+settle s r ok (state.Granted tuple) =
+    answers (request_ended last.Done r.id (settle_tuple ok (tuple_at s tuple) s)) out.Plain
 settle s r ok (state.Answered o) = answers s out.WrongKind
 
 -- Pop.
@@ -190,7 +202,9 @@ pop_empty s n nothing (hearing.Closed last until) = answers (notifier_ended last
 
 abbrev pub pop_queue : Plain → Notifier → Out → List Raised → Outcome
 pop_queue s n nothing [] = pop_empty s n nothing n.state
-pop_queue s n nothing (e ∷ es) = answers (with_notifier n.id (λ n. record n { popped = n.popped + 1 }) s) (out.Event (event_value e))
+pop_queue s n nothing (e ∷ es) =
+    answers (with_notifier n.id (λ n. record n { popped = n.popped + 1 }) s)
+    (out.Event (event_value e))
 
 abbrev pub pop_notifier : Plain → Out → Notifier → Outcome
 pop_notifier s nothing n = pop_queue s n nothing (queue n s.events)
@@ -218,7 +232,8 @@ withdraw_request s r (state.Granted tuple) = collect s r (state.Granted tuple)
 withdraw_request s r (state.Answered o) = collect s r (state.Answered o)
 
 abbrev pub withdraw : Plain → ℕ → Found → Outcome
-withdraw s caller (TheRequest r) = if r.caller == caller then withdraw_request s r r.state else answers s out.WrongKind
+withdraw s caller (TheRequest r) = if r.caller == caller then withdraw_request s r r.state
+    else answers s out.WrongKind
 withdraw s caller (TheTuple t) = answers s out.WrongKind
 withdraw s caller (TheNotifier n) = pop_notifier s out.WouldWait n
 withdraw s caller (HasEnded kind last) = answers s (pop_ended kind)
@@ -238,7 +253,8 @@ cancel_request s r (state.Granted tuple) = s
 cancel_request s r (state.Answered o) = s
 
 abbrev pub cancel_notifier : Plain → Notifier → Hearing → Plain
-cancel_notifier s n hearing.Running = with_notifier n.id (λ n. record n { state = hearing.Closed last.Canceled (length s.events) }) s
+cancel_notifier s n hearing.Running =
+    with_notifier n.id (λ n. record n { state = hearing.Closed last.Canceled (length s.events) }) s
 cancel_notifier s n (hearing.Closed last until) = s
 
 abbrev pub cancel : Plain → Found → Outcome
@@ -252,34 +268,45 @@ cancel s IsUnknown = answers s out.Unknown
 -- Renew: the deadline and the renewer of the lease, and no doubt.
 
 abbrev pub renewed_tuple : Option ℕ → Option Remote → Entry → Entry
-renewed_tuple deadline renewer t = record t { deadline = deadline; renewer = renewer; doubt = doubt.No }
+renewed_tuple deadline renewer t =
+    record t { deadline = deadline; renewer = renewer; doubt = doubt.No }
 
 abbrev pub renewed_request : Option ℕ → Option Remote → Request → Request
-renewed_request deadline renewer r = record r { deadline = deadline; renewer = renewer; doubt = doubt.No }
+renewed_request deadline renewer r =
+    record r { deadline = deadline; renewer = renewer; doubt = doubt.No }
 
 abbrev pub renewed_notifier : Option ℕ → Option Remote → Notifier → Notifier
-renewed_notifier deadline renewer n = record n { deadline = deadline; renewer = renewer; doubt = doubt.No }
+renewed_notifier deadline renewer n =
+    record n { deadline = deadline; renewer = renewer; doubt = doubt.No }
 
 abbrev pub renew_request : Plain → Option ℕ → Option Remote → Request → RequestState → Plain
-renew_request s deadline renewer r state.Reserved = with_request r.id (renewed_request deadline renewer) s
-renew_request s deadline renewer r state.Parked = with_request r.id (renewed_request deadline renewer) s
+renew_request s deadline renewer r state.Reserved =
+    with_request r.id (renewed_request deadline renewer) s
+renew_request s deadline renewer r state.Parked =
+    with_request r.id (renewed_request deadline renewer) s
 renew_request s deadline renewer r (state.Granted tuple) = s
 renew_request s deadline renewer r (state.Answered o) = s
 
 abbrev pub renew_notifier : Plain → Option ℕ → Option Remote → Notifier → Hearing → Plain
-renew_notifier s deadline renewer n hearing.Running = with_notifier n.id (renewed_notifier deadline renewer) s
+renew_notifier s deadline renewer n hearing.Running =
+    with_notifier n.id (renewed_notifier deadline renewer) s
 renew_notifier s deadline renewer n (hearing.Closed last until) = s
 
 abbrev pub renew_with : Plain → Option ℕ → Option Remote → Found → Outcome
-renew_with s deadline renewer (TheRequest r) = answers (renew_request s deadline renewer r r.state) out.Plain
-renew_with s deadline renewer (TheTuple t) = answers (with_tuple t.id (renewed_tuple deadline renewer) s) out.Plain
-renew_with s deadline renewer (TheNotifier n) = answers (renew_notifier s deadline renewer n n.state) out.Plain
+renew_with s deadline renewer (TheRequest r) =
+    answers (renew_request s deadline renewer r r.state) out.Plain
+renew_with s deadline renewer (TheTuple t) =
+    answers (with_tuple t.id (renewed_tuple deadline renewer) s) out.Plain
+renew_with s deadline renewer (TheNotifier n) =
+    answers (renew_notifier s deadline renewer n n.state) out.Plain
 renew_with s deadline renewer (HasEnded kind last) = answers s out.Plain
 renew_with s deadline renewer IsRecycled = answers s out.Recycled
 renew_with s deadline renewer IsUnknown = answers s out.Unknown
 
 abbrev pub renew : Plain → Lease → Found → Outcome
-renew s lease found = renew_with s (deadline lease.life s.clock) (renewer_of (deadline lease.life s.clock) lease.renewer s.clock) found
+renew s lease found =
+    renew_with s (deadline lease.life s.clock)
+    (renewer_of (deadline lease.life s.clock) lease.renewer s.clock) found
 
 -- Look.
 
@@ -319,7 +346,8 @@ flags expired canceled doubt = record {
 }
 
 abbrev pub tuple_flags : ℕ → Entry → Flags
-tuple_flags now t = flags (is_free t && (not (is_doubted t.doubt) && is_over now t.deadline)) t.marked t.doubt
+tuple_flags now t = flags (is_free t && (not (is_doubted t.doubt) && is_over now t.deadline))
+    t.marked t.doubt
 
 abbrev pub request_flags : ℕ → Request → Flags
 request_flags now r =
@@ -328,7 +356,8 @@ request_flags now r =
 
 abbrev pub notifier_flags : ℕ → Notifier → Flags
 notifier_flags now n =
-    flags (is_expired (hearing_last n.state) || (hearing_runs n.state && (not (is_doubted n.doubt) && is_over now n.deadline)))
+    flags (is_expired (hearing_last n.state)
+    || (hearing_runs n.state && (not (is_doubted n.doubt) && is_over now n.deadline)))
     (is_canceled (hearing_last n.state)) n.doubt
 
 abbrev pub ended_flags : Last → Flags
@@ -360,7 +389,8 @@ value s IsUnknown = answers s out.Unknown
 -- ReadAll: the rows rise by id.
 
 abbrev pub all_of : Plain → Template → List Tree
-all_of s pattern = map (λ t. value_of t.value) (filter (λ t. matches pattern t.value && is_live s.clock t) s.tuples)
+all_of s pattern = map (λ t. value_of t.value)
+    (filter (λ t. matches pattern t.value && is_live s.clock t) s.tuples)
 
 -- Notify: it hears the events from now on.
 
@@ -380,7 +410,10 @@ new_notifier s event pattern lease = record {
 abbrev pub notify : Plain → Tree → Template → Lease → Outcome
 notify s event pattern lease =
     unless_shut s
-    (answers (record (minted s) { notifiers = s.notifiers ++ new_notifier s event pattern lease ∷ [] }) (out.Notifier s.next))
+    (answers (record (minted s) {
+      notifiers = s.notifiers ++ new_notifier s event pattern lease
+          ∷ [];
+    }) (out.Notifier s.next))
 
 -- NextAsk: of the rows that wait for their renewers, the one of least id.
 
@@ -401,7 +434,8 @@ flat f (row ∷ rows) = f row ++ flat f rows
 abbrev pub askings : Plain → List Asking
 askings s =
     flat (λ t. asking_of t.id t.doubt t.renewer) s.tuples
-    ++ (flat (λ r. asking_of r.id r.doubt r.renewer) s.requests ++ flat (λ n. asking_of n.id n.doubt n.renewer) s.notifiers)
+    ++ (flat (λ r. asking_of r.id r.doubt r.renewer) s.requests
+    ++ flat (λ n. asking_of n.id n.doubt n.renewer) s.notifiers)
 
 abbrev pub earlier : Asking → Option Asking → Asking
 earlier a None = a
@@ -420,7 +454,8 @@ asked_doubt doubt.Asked = doubt.Asked
 abbrev pub asked_for : ℕ → Plain → Plain
 asked_for id s =
     with_tuple id (λ t. record t { doubt = asked_doubt t.doubt })
-    (with_request id (λ r. record r { doubt = asked_doubt r.doubt }) (with_notifier id (λ n. record n { doubt = asked_doubt n.doubt }) s))
+    (with_request id (λ r. record r { doubt = asked_doubt r.doubt })
+    (with_notifier id (λ n. record n { doubt = asked_doubt n.doubt }) s))
 
 abbrev pub ask : Plain → Option Asking → Outcome
 ask s None = answers s out.NotYet
@@ -435,13 +470,19 @@ is_asked doubt.Waiting = false
 is_asked doubt.Asked = true
 
 abbrev pub told_tuple : Plain → Option ℕ → Entry → Plain
-told_tuple s deadline t = if is_asked t.doubt then with_tuple t.id (renewed_tuple deadline (renewer_of deadline t.renewer s.clock)) s else s
+told_tuple s deadline t =
+    if is_asked t.doubt then with_tuple t.id
+    (renewed_tuple deadline (renewer_of deadline t.renewer s.clock)) s else s
 
 abbrev pub told_request : Plain → Option ℕ → Request → Plain
-told_request s deadline r = if is_asked r.doubt then with_request r.id (renewed_request deadline (renewer_of deadline r.renewer s.clock)) s else s
+told_request s deadline r =
+    if is_asked r.doubt then with_request r.id
+    (renewed_request deadline (renewer_of deadline r.renewer s.clock)) s else s
 
 abbrev pub told_notifier : Plain → Option ℕ → Notifier → Plain
-told_notifier s deadline n = if is_asked n.doubt then with_notifier n.id (renewed_notifier deadline (renewer_of deadline n.renewer s.clock)) s else s
+told_notifier s deadline n =
+    if is_asked n.doubt then with_notifier n.id
+    (renewed_notifier deadline (renewer_of deadline n.renewer s.clock)) s else s
 
 abbrev pub told : Plain → Option ℕ → Found → Outcome
 told s deadline (TheRequest r) = answers (told_request s deadline r) out.Plain
@@ -460,7 +501,8 @@ shut_request r =
     else r)
 
 abbrev pub shut_notifier : ℕ → Notifier → Notifier
-shut_notifier until n = if is_running n.state then record n { state = hearing.Closed last.Canceled until } else n
+shut_notifier until n =
+    if is_running n.state then record n { state = hearing.Closed last.Canceled until } else n
 
 abbrev pub shut_down : Plain → Plain
 shut_down s = record s {

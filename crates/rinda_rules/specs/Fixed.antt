@@ -22,25 +22,31 @@ picks_serve s (pick ∷ picks) = may_serve s pick && picks_serve (served s pick)
 -- the answer and the space after the event and these picks
 abbrev pub case_with : Plain → ℕ → Event → Option Request → List Pick → Outcome
 case_with s caller event None picks =
-    let o = outcome s caller event None in record { out = o.out; after = served_all (aged o.after) picks }
+    let o = outcome s caller event None
+    in record { out = o.out; after = served_all (aged o.after) picks }
 case_with s caller event (Some r) [] = record { out = (outcome s caller event None).out; after = s }
 case_with s caller event (Some r) (pick ∷ picks) =
-    let o = outcome s caller event (tuple_at s pick.tuple) in record { out = o.out; after = served_all (aged o.after) picks }
+    let o = outcome s caller event (tuple_at s pick.tuple)
+    in record { out = o.out; after = served_all (aged o.after) picks }
 
 -- these picks may be made in the event's own case and in what follows it
 abbrev pub picks_fit_case : Plain → ℕ → Event → Option Request → List Pick → Bool
-picks_fit_case s caller event None picks = picks_serve (aged (outcome s caller event None).after) picks
+picks_fit_case s caller event None picks =
+    picks_serve (aged (outcome s caller event None).after) picks
 picks_fit_case s caller event (Some r) [] = false
 picks_fit_case s caller event (Some r) (pick ∷ picks) =
-    is_match s r pick && picks_serve (aged (outcome s caller event (tuple_at s pick.tuple)).after) picks
+    is_match s r pick && picks_serve (aged (outcome s caller event (tuple_at s pick.tuple)).after)
+    picks
 
 -- the answer and the space that a turn's picks fix
 abbrev pub turn_with : Plain → ℕ → ℕ → Event → List Pick → Outcome
-turn_with s caller at event picks = case_with (found_by s at) caller event (chooser (found_by s at) caller event) picks
+turn_with s caller at event picks =
+    case_with (found_by s at) caller event (chooser (found_by s at) caller event) picks
 
 -- these picks may be made in the turn
 abbrev pub picks_fit : Plain → ℕ → ℕ → Event → List Pick → Bool
-picks_fit s caller at event picks = picks_fit_case (found_by s at) caller event (chooser (found_by s at) caller event) picks
+picks_fit s caller at event picks =
+    picks_fit_case (found_by s at) caller event (chooser (found_by s at) caller event) picks
 
 -- the space after a turn
 abbrev pub after : Plain → Turn → Plain

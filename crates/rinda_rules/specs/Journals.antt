@@ -19,7 +19,8 @@ empty cap = record { turns = []; ahead = []; cap = cap }
 
 -- the turn of this caller, at this reading of the clock, with this event, answer and picks
 abbrev pub made : ℕ → ℕ → Event → Out → List Pick → Turn
-made caller at event out picks = record { caller = caller; at = at; event = event; out = out; picks = picks }
+made caller at event out picks =
+    record { caller = caller; at = at; event = event; out = out; picks = picks }
 
 -- the turn that was prepared, if one was
 abbrev pub prepared : Option Turn → List Turn

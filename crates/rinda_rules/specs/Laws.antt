@@ -16,8 +16,12 @@ use Rattle.rinda_rules.specs.Legal.{LegalFrom, plain_from}
 
 -- the picks of a turn fix its answer and the space that it leaves
 abbrev pub StepIsFixed : Type 0
-StepIsFixed = (s : Plain) (caller at : ℕ) (event : Event) (out : Out) (picks : List Pick) (s' : Plain) →
-    Step s caller at event out picks s' ↔ ((picks_fit s caller at event picks ≡ true) × (out ≡ (turn_with s caller at event picks).out) × (s' ≡ (turn_with s caller at event picks).after))
+StepIsFixed = (s : Plain) (caller at : ℕ) (event : Event) (out : Out) (picks : List Pick)
+    (s' : Plain) →
+    Step s caller at event out picks s'
+    ↔ ((picks_fit s caller at event picks ≡ true)
+    × (out ≡ (turn_with s caller at event picks).out)
+    × (s' ≡ (turn_with s caller at event picks).after))
 
 -- in a sound space, aging row by row and aging each list at once are the same
 abbrev pub AgingAtOnce : Type 0
@@ -25,7 +29,8 @@ AgingAtOnce = (s : Plain) → Sound s → aged s ≡ aged_at_once s
 
 -- a step leads from a sound and settled space to a sound and settled one
 abbrev pub SettledIsKept : Type 0
-SettledIsKept = (s : Plain) (caller at : ℕ) (event : Event) (out : Out) (picks : List Pick) (s' : Plain) →
+SettledIsKept = (s : Plain) (caller at : ℕ) (event : Event) (out : Out) (picks : List Pick)
+    (s' : Plain) →
     Sound s → Settled s → Step s caller at event out picks s' → Sound s' × Settled s'
 
 -- so does every history that is legal from such a space

@@ -30,7 +30,8 @@ advanced s at = record s { clock = max s.clock at }
 -- Raise: the event joins the list, of which each notifier's queue is a part.
 
 abbrev pub raised : Happening → Entry → Plain → Plain
-raised what t s = record s { events = s.events ++ record { what = what; id = t.id; tuple = t.value } ∷ [] }
+raised what t s = record
+    s { events = s.events ++ record { what = what; id = t.id; tuple = t.value } ∷ [] }
 
 -- One tuple, request or notifier is changed, and the rest of the space stays as it was.
 
@@ -52,7 +53,8 @@ request_in id state s = record s { requests = changed (λ r. r.id) id (in_state 
 -- An object ends: its id is kept among the last that ended.
 
 abbrev pub ended : ObjectKind → ℕ → Last → Plain → Plain
-ended kind id last s = record s { ended = retained (s.ended ++ record { id = id; kind = kind; last = last } ∷ []) }
+ended kind id last s =
+    record s { ended = retained (s.ended ++ record { id = id; kind = kind; last = last } ∷ []) }
 
 -- a tuple that is taken, expires or is canceled is raised so
 abbrev pub happening_of : Last → Happening
@@ -63,13 +65,17 @@ happening_of last.Done = happening.Delete
 
 -- a tuple ends, and is raised as taken or deleted
 abbrev pub tuple_ended : Last → Entry → Plain → Plain
-tuple_ended last t s = ended object.Entry t.id last (raised (happening_of last) t (record s { tuples = without (λ t. t.id) t.id s.tuples }))
+tuple_ended last t s =
+    ended object.Entry t.id last
+    (raised (happening_of last) t (record s { tuples = without (λ t. t.id) t.id s.tuples }))
 
 abbrev pub request_ended : Last → ℕ → Plain → Plain
-request_ended last id s = ended object.Request id last (record s { requests = without (λ r. r.id) id s.requests })
+request_ended last id s =
+    ended object.Request id last (record s { requests = without (λ r. r.id) id s.requests })
 
 abbrev pub notifier_ended : Last → ℕ → Plain → Plain
-notifier_ended last id s = ended object.Notifier id last (record s { notifiers = without (λ n. n.id) id s.notifiers })
+notifier_ended last id s =
+    ended object.Notifier id last (record s { notifiers = without (λ n. n.id) id s.notifiers })
 
 -- Age: each due row, in rising id. With a renewer it is doubted. Without, a tuple ends and is raised as deleted, a
 -- request is answered Expired, and a notifier is closed, after the events that were raised by then.
@@ -88,12 +94,14 @@ close_after last until n = record n { state = hearing.Closed last until }
 
 -- a tuple that is due
 abbrev pub age_tuple : Plain → Entry → Plain
-age_tuple s t = if is_none t.renewer then tuple_ended last.Expired t s else with_tuple t.id doubt_tuple s
+age_tuple s t = if is_none t.renewer then tuple_ended last.Expired t s
+    else with_tuple t.id doubt_tuple s
 
 -- a request that is due
 abbrev pub age_request : Plain → Request → Plain
 age_request s r =
-    if is_none r.renewer then request_in r.id (state.Answered out.Expired) s else with_request r.id doubt_request s
+    if is_none r.renewer then request_in r.id (state.Answered out.Expired) s
+    else with_request r.id doubt_request s
 
 -- a notifier that is due
 abbrev pub age_notifier : Plain → Notifier → Plain
@@ -123,7 +131,8 @@ aged s = aged_below s.next s
 abbrev pub nothing_due : Plain → Bool
 nothing_due s =
     list_all (λ t. not (is_due_tuple s.clock t)) s.tuples
-    && (list_all (λ r. not (is_due_request s.clock r)) s.requests && list_all (λ n. not (is_due_notifier s.clock n)) s.notifiers)
+    && (list_all (λ r. not (is_due_request s.clock r)) s.requests
+    && list_all (λ n. not (is_due_notifier s.clock n)) s.notifiers)
 
 -- Serve: first each waiting Read that has a match, then Takes and Moves, until nobody waits beside a match.
 
@@ -133,8 +142,11 @@ held_by request t = record t { holder = Some request }
 -- A request is served with a tuple: it reads it, takes it, or holds it.
 abbrev pub served_as : Kind → Request → Entry → Plain → Plain
 served_as kind.Read r t s = request_in r.id (state.Answered (out.Answer (value_of t.value))) s
-served_as kind.Take r t s = request_in r.id (state.Answered (out.Answer (value_of t.value))) (tuple_ended last.Taken t s)
-served_as kind.Move r t s = request_in r.id (state.Granted t.id) (record s { tuples = changed (λ t. t.id) t.id (held_by r.id) s.tuples })
+served_as kind.Take r t s =
+    request_in r.id (state.Answered (out.Answer (value_of t.value))) (tuple_ended last.Taken t s)
+served_as kind.Move r t s =
+    request_in r.id (state.Granted t.id)
+    (record s { tuples = changed (λ t. t.id) t.id (held_by r.id) s.tuples })
 
 abbrev pub served_with : Request → Entry → Plain → Plain
 served_with r t s = served_as r.kind r t s
@@ -155,7 +167,8 @@ read_waits s = list_any (λ r. is_read r.kind && can_be_served s r) s.requests
 -- The pick is served now: its request waits, and may have its tuple; a Take or a Move comes after all Reads.
 abbrev pub may_serve_row : Plain → Pick → Option Request → Bool
 may_serve_row s pick None = false
-may_serve_row s pick (Some r) = is_waiting r && (is_match s r pick && (is_read r.kind || not (read_waits s)))
+may_serve_row s pick (Some r) =
+    is_waiting r && (is_match s r pick && (is_read r.kind || not (read_waits s)))
 
 abbrev pub may_serve : Plain → Pick → Bool
 may_serve s pick = may_serve_row s pick (request_at s pick.request)

@@ -33,7 +33,8 @@ abbrev pub notifier_again : Notifier → Notifier
 notifier_again n = record n { doubt = doubt_again n.doubt }
 
 abbrev pub all_doubt_again : Plain → Plain
-all_doubt_again s = record s { tuples = map tuple_again s.tuples; notifiers = map notifier_again s.notifiers }
+all_doubt_again s = record
+    s { tuples = map tuple_again s.tuples; notifiers = map notifier_again s.notifiers }
 
 -- Nobody who made a request is there any more: what is held is let go, every request ends, what was being asked is
 -- asked again, the space is no longer shut, and what is then due ages. Each is done in rising id.

@@ -35,7 +35,8 @@ is_shut_request r = (not (is_reserved r.state) || r.marked) && not (is_parked r.
 -- where the space is shut, its requests are so, and no notifier runs
 abbrev pub is_shut_down : Plain → Bool
 is_shut_down s =
-    not s.shut || (list_all is_shut_request s.requests && list_all (λ n. not (is_running n.state)) s.notifiers)
+    not s.shut || (list_all is_shut_request s.requests
+    && list_all (λ n. not (is_running n.state)) s.notifiers)
 
 -- Nobody waits beside a match, nothing is due, every marked tuple is held, each held one is granted to its holder, and
 -- a space that is shut has nobody who waits.

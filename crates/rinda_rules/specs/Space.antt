@@ -74,7 +74,8 @@ pub data Found : Type 0 where
   IsRecycled : Found
   IsUnknown : Found
 
-abbrev pub found_among : Plain → ℕ → Option Request → Option Entry → Option Notifier → Option Ended → Found
+abbrev pub found_among : Plain → ℕ → Option Request → Option Entry → Option Notifier →
+    Option Ended → Found
 found_among s id (Some r) t n e = TheRequest r
 found_among s id None (Some t) n e = TheTuple t
 found_among s id None None (Some n) e = TheNotifier n
@@ -112,7 +113,8 @@ is_free t = is_none t.holder
 
 -- neither marked nor doubted, and held or its deadline above now
 abbrev pub is_live : ℕ → Entry → Bool
-is_live now t = not t.marked && (not (is_doubted t.doubt) && (not (is_free t) || not (is_over now t.deadline)))
+is_live now t = not t.marked
+    && (not (is_doubted t.doubt) && (not (is_free t) || not (is_over now t.deadline)))
 
 abbrev pub is_due_tuple : ℕ → Entry → Bool
 is_due_tuple now t = is_free t && (not (is_doubted t.doubt) && is_over now t.deadline)

@@ -63,7 +63,8 @@ closed_as hearing.Running = note.Running
 closed_as (hearing.Closed last until) = note.Closed last
 
 -- the notifier has the row's patterns and state, its queue is the stored one, and its lease is the stored one
-pub record NoteMatches (leases : List StartLease) (events : List Raised) (stored : StartNote) (n : Notifier) : Type 0 where
+pub record NoteMatches (leases : List StartLease) (events : List Raised) (stored : StartNote)
+    (n : Notifier) : Type 0 where
   pub id : n.id ≡ stored.row.id
   pub event : n.event ≡ stored.row.event
   pub pattern : n.pattern ≡ stored.row.pattern

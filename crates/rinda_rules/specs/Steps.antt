@@ -11,7 +11,8 @@ use Rattle.rinda_rules.specs.Cases.{outcome}
 
 -- the caller's own reserved request, where it has a match
 abbrev pub matched : Plain → ℕ → Found → Option Request
-matched s caller (TheRequest r) = if r.caller == caller && (is_reserved r.state && has_match s r) then Some r else None
+matched s caller (TheRequest r) = if r.caller == caller && (is_reserved r.state && has_match s r)
+    then Some r else None
 matched s caller (TheTuple t) = None
 matched s caller (TheNotifier n) = None
 matched s caller (HasEnded kind last) = None
@@ -44,7 +45,8 @@ Case s caller event None out picks s' =
     let o = outcome s caller event None in (out ≡ o.out) × Serve (aged o.after) picks s'
 Case s caller event (Some r) out [] s' = ⊥
 Case s caller event (Some r) out (pick ∷ picks) s' =
-    let o = outcome s caller event (tuple_at s pick.tuple) in IsTrue (is_match s r pick) × (out ≡ o.out) × Serve (aged o.after) picks s'
+    let o = outcome s caller event (tuple_at s pick.tuple) in IsTrue (is_match s r pick)
+    × (out ≡ o.out) × Serve (aged o.after) picks s'
 
 -- the space as the event finds it
 abbrev pub found_by : Plain → ℕ → Plain
@@ -52,4 +54,5 @@ found_by s at = aged (advanced s at)
 
 -- From s, the caller's event at that reading may be answered so, with these picks, and leave s'.
 abbrev pub Step : Plain → ℕ → ℕ → Event → Out → List Pick → Plain → Type 0
-Step s caller at event out picks s' = let ready = found_by s at in Case ready caller event (chooser ready caller event) out picks s'
+Step s caller at event out picks s' = let ready =
+    found_by s at in Case ready caller event (chooser ready caller event) out picks s'

@@ -97,7 +97,11 @@ impl Model for VecJournal {
 
     ghost coded = { Prim.hlevel (codes, e.the_row.coded) };
 
-    ghost view = { λ j. record { turns = j.list.items; ahead = j.list.items ++ prepared j.next; cap = j.cap } };
+    ghost view = { λ j. record {
+      turns = j.list.items;
+      ahead = j.list.items ++ prepared j.next;
+      cap = j.cap;
+    } };
 
     ghost invariant = { λ j. HasRoom j.list j.next j.cap };
 }

@@ -91,7 +91,14 @@ impl Turn {
 ///
 /// Errors: only want of memory.
 fn copy_with(alloc: Global, turn: &Turn, out: Out, picks: Picks) -> Result<Turn, AllocError>
-    ensures { IfOk result (λ copied. copied ≡ record { caller = turn.now.caller; at = turn.now.at; event = turn.now.event; out = out; picks = picks }) }
+    ensures { IfOk result
+        (λ copied. copied ≡ record {
+          caller = turn.now.caller;
+          at = turn.now.at;
+          event = turn.now.event;
+          out = out;
+          picks = picks;
+        }) }
 {
     let event = turn.event.copy(alloc)?;
     Ok(Turn {

@@ -90,7 +90,11 @@ table =
     ∷ (codes "Struct", is_struct)
     ∷ (codes "DRb::DRbObject", is_remote)
     ∷ (codes "Comparable", λ x. is_int x || is_text x || is_sym x)
-    ∷ (codes "Enumerable", λ x. is_list x || is_hash x || is_struct x || is_object_of (codes "Range") x)
+    ∷ (
+      codes "Enumerable",
+      λ x. is_list x || is_hash x || is_struct x
+          || is_object_of (codes "Range") x,
+    )
     ∷ []
 
 -- the values that the name suits by these lines, and by the last line where none of them has the name

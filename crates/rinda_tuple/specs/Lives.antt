@@ -21,7 +21,8 @@ unless_past time = if nat_le time last_deadline then Some time else None
 abbrev pub deadline : Life → ℕ → Option ℕ
 deadline Never now = None
 deadline Gone now = Some 0
-deadline (Seconds s) now = if int_le s (pos 0) then Some now else unless_past (now + 1000 * nat_abs s)
+deadline (Seconds s) now = if int_le s (pos 0) then Some now
+    else unless_past (now + 1000 * nat_abs s)
 
 -- what a life argument says, by its outermost part
 abbrev pub life_at : Tree-F Tree → LifeArg

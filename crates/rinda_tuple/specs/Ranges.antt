@@ -15,7 +15,8 @@ pub record Range : Type 0 where
 -- the value of the field of that name
 abbrev pub field_of : List ℕ → List (List ℕ × Tree) → Option Tree
 field_of name [] = None
-field_of name (field ∷ fields) = if bytes_eq field.0 name then Some field.1 else field_of name fields
+field_of name (field ∷ fields) = if bytes_eq field.0 name then Some field.1
+    else field_of name fields
 
 -- true or false, or neither
 abbrev pub truth_at : Tree-F Tree → Option Bool
@@ -42,7 +43,8 @@ range_from None first last = None
 abbrev pub range_of : Tree-F Tree → Option Range
 range_of (Tree-F.Object class fields) =
     if bytes_eq class (codes "Range") && (length fields == 3)
-    then range_from (field_of (codes "excl") fields) (field_of (codes "begin") fields) (field_of (codes "end") fields)
+    then range_from (field_of (codes "excl") fields) (field_of (codes "begin") fields)
+    (field_of (codes "end") fields)
     else None
 range_of _ = None
 

@@ -160,14 +160,16 @@ fn is_remote(x: &Node) -> bool
 
 /// What has an order: Int, Text and Sym.
 fn is_comparable(x: &Node) -> bool
-    ensures { result ≡ (is_int_spec (layer x.now) || is_text_spec (layer x.now) || is_sym_spec (layer x.now)) }
+    ensures { result ≡ (is_int_spec (layer x.now) || is_text_spec (layer x.now)
+        || is_sym_spec (layer x.now)) }
 {
     is_int(x) || is_text(x) || is_sym(x)
 }
 
 /// What has items: List, Hash, Struct and an Object of class `Range`.
 fn is_enumerable(x: &Node) -> bool
-    ensures { result ≡ (is_list_spec (layer x.now) || is_hash_spec (layer x.now) || is_struct_spec (layer x.now) || is_object_of_spec (codes "Range") (layer x.now)) }
+    ensures { result ≡ (is_list_spec (layer x.now) || is_hash_spec (layer x.now)
+        || is_struct_spec (layer x.now) || is_object_of_spec (codes "Range") (layer x.now)) }
 {
     is_list(x) || is_hash(x) || is_struct(x) || is_object_of(b"Range", x)
 }
