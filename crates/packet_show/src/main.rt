@@ -3,15 +3,18 @@
 //! The program reads lines from standard input, each `request` or `reply` and bytes in hexadecimal, and prints a line for
 //! each: of a request the method's name with its control bytes escaped, the number of arguments and whether there is a
 //! block; of a reply whether the call succeeded; else the text of the refusal; and how many bytes are left behind it. It
-//! reads the bytes in pieces of 1, 2, 3 and 4,096. It stands on `drb_packet`, and promises that what it shows is what
-//! stands first, in whatever pieces the bytes come. `peer/packets.sh` runs it on what a real Ruby sent. Read `seen.rt`
-//! and `names.rt` for what is promised.
+//! reads the bytes in pieces of 1, 2, 3 and 4,096. Of a line that begins with `again` it prints what stands first as it is
+//! written here, and whether that is the bytes themselves. It stands on `drb_packet`, and promises that what it shows is
+//! what stands first, in whatever pieces the bytes come, and the text of that. `peer/packets.sh` runs it on what a real
+//! Ruby sent. Read `seen.rt`, `names.rt` and `again.rt` for what is promised.
 #![tactic(auto)]
 
+mod again;
 mod names;
 mod pieces;
 mod seen;
 
+use again::again;
 use seen::{Call, Kind, Seen};
 use std::alloc::Global;
 use std::io;
@@ -43,21 +46,55 @@ fn show_bytes(rt: &impl Print, alloc: Global, kind: Kind, bytes: &[u8]) -> io::R
     }
 }
 
-/// Prints what stands first in bytes in hexadecimal.
-fn show_text(rt: &impl Print, alloc: Global, kind: Kind, text: &str) -> io::Result<()> {
-    match hex::decode(alloc, text) {
-        Ok(bytes) => show_bytes(rt, alloc, kind, bytes.as_slice()),
-        Err(_) => println!(rt; "not hexadecimal"),
+/// Prints what is written again of the bytes, and whether it is the bytes themselves.
+fn show_again(rt: &impl Print, alloc: Global, kind: Kind, bytes: &[u8]) -> io::Result<()> {
+    match again(alloc, kind, bytes) {
+        Ok(None) => println!(rt; "not written again"),
+        Ok(Some(text)) => show_written(rt, alloc, text.as_slice(), bytes),
+        Err(error) => println!(rt; "{error}"),
     }
 }
 
+fn show_written(rt: &impl Print, alloc: Global, text: &[u8], bytes: &[u8]) -> io::Result<()> {
+    let how = if text == bytes {
+        "as it came"
+    } else {
+        "otherwise"
+    };
+    println!(rt; "{how} {}", hex::encode(alloc, text)?)
+}
+
+/// Prints what stands first in bytes in hexadecimal, or what is written again of them.
+fn show_text(rt: &impl Print, alloc: Global, asked: Asked, text: &str) -> io::Result<()> {
+    let Ok(bytes) = hex::decode(alloc, text) else {
+        return println!(rt; "not hexadecimal");
+    };
+    match asked {
+        Asked::First(kind) => show_bytes(rt, alloc, kind, bytes.as_slice()),
+        Asked::Again(kind) => show_again(rt, alloc, kind, bytes.as_slice()),
+    }
+}
+
+/// What a line asks for.
+#[derive(Clone, Copy, Debug)]
+enum Asked {
+    First(Kind),
+    Again(Kind),
+}
+
+const WORDS: [(&str, Asked); 4] = [
+    ("request", Asked::First(Kind::Request)),
+    ("reply", Asked::First(Kind::Reply)),
+    ("again request", Asked::Again(Kind::Request)),
+    ("again reply", Asked::Again(Kind::Reply)),
+];
+
 /// Prints what the line asks for.
 fn show_line(rt: &impl Print, alloc: Global, line: &str) -> io::Result<()> {
-    if let Some(text) = line.strip_prefix("request") {
-        return show_text(rt, alloc, Kind::Request, text.trim());
-    }
-    if let Some(text) = line.strip_prefix("reply") {
-        return show_text(rt, alloc, Kind::Reply, text.trim());
+    for (word, asked) in WORDS {
+        if let Some(text) = line.strip_prefix(word) {
+            return show_text(rt, alloc, asked, text.trim());
+        }
     }
     println!(rt; "neither request nor reply")
 }

@@ -38,7 +38,7 @@ impl From<AllocError> for ShowError {
 }
 
 /// A source of the bytes in pieces of that size.
-fn source_of(alloc: Global, bytes: &[u8], piece: usize) -> Result<MemSource, AllocError>
+pub fn source_of(alloc: Global, bytes: &[u8], piece: usize) -> Result<MemSource, AllocError>
     ensures { IfOk result (λ source. source.bytes ≡ bytes.now) }
 {
     let mut pieces = Vec::new(alloc);

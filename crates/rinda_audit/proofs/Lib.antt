@@ -5,3 +5,4 @@ pub mod Heard
 pub mod Nodes
 pub mod Pops
 pub mod Replaying
+pub mod Storing

@@ -4,3 +4,4 @@ pub mod Finds
 pub mod Asks
 pub mod Counts
 pub mod Replays
+pub mod Stored

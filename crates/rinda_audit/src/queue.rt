@@ -1,8 +1,8 @@
 //! A notifier's queue, as a part of the space's events.
 
-ghost use Rattle.std.specs.Prelude.{◌≡◌, ◌-◌, ◌&&◌, ◌==◌, false, if◌then◌else◌, take, drop, filter, option_map, IfOk};
+ghost use Rattle.std.specs.Prelude.{◌≡◌, ◌-◌, ◌&&◌, ◌==◌, false, if◌then◌else◌, take, drop, map, filter, option_map, IfOk};
 ghost use Rattle.rinda_rules.specs.Space.{hears as hears_spec, event_value as event_value_spec};
-ghost use Rattle.rinda_rules.specs.Queue.{queue, until_end as until_end_spec};
+ghost use Rattle.rinda_rules.specs.Queue.{queue, queue_values, until_end as until_end_spec};
 ghost use Rattle.rinda_rules.specs.Nothing.{is_empty as is_empty_spec};
 ghost use Rattle.rinda_audit.specs.Replays.{first};
 
@@ -17,6 +17,13 @@ pub fn first_of(alloc: Global, n: &Notifier, events: &[Raised]) -> Result<Option
     ensures { IfOk result (λ v. v ≡ option_map event_value_spec (first (queue n.now events.now))) }
 {
     first_heard(alloc, n, since(until_end(n.state, events), n.since))
+}
+
+/// The events in the notifier's queue, as a caller sees them.
+pub fn queue_of(alloc: Global, n: &Notifier, events: &[Raised]) -> Result<Items<Value>, AllocError>
+    ensures { IfOk result (λ all. all ≡ queue_values n.now events.now) }
+{
+    all_heard(alloc, n, since(until_end(n.state, events), n.since))
 }
 
 /// The notifier's queue is empty.
@@ -65,6 +72,25 @@ fn first_heard(alloc: Global, n: &Notifier, events: &[Raised]) -> Result<Option<
         left = left_after(heard, left);
     }
     Ok(None)
+}
+
+/// Those of the events that the notifier hears, after those that were popped.
+fn all_heard(alloc: Global, n: &Notifier, events: &[Raised]) -> Result<Items<Value>, AllocError>
+    ensures { IfOk result
+        (λ all. all ≡ map event_value_spec
+        (drop n.now.popped (filter (hears_spec n.now) events.now))) }
+{
+    let mut all = Items::new(alloc);
+    let mut left = n.popped;
+    for e in events {
+        let heard = hears(alloc, n, e)?;
+        if heard && left == 0 {
+            all.push(event_value(alloc, e)?)?;
+        } else {
+            left = left_after(heard, left);
+        }
+    }
+    Ok(all)
 }
 
 /// One fewer where this one was heard.

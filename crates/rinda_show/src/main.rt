@@ -8,13 +8,16 @@
 //! - `argument VALUE`: what the value says as the life argument of a request;
 //! - `deadline LIFE NOW`: when the life is over, in milliseconds, LIFE a number of seconds, `never` or `gone`;
 //! - `new`: an empty space; `reopen`: the space is opened again after a stop;
+//! - `start`: what is stored of the space, from which another one may start, or `refused`;
 //! - `turn CALLER AT EVENT = ANSWER / PICKS`: whether the turn may come next, which is then made;
 //! - `#`, and any text: that text.
 //!
 //! It stands on `rinda_tuple` and `rinda_audit`, whose contracts say what is right. `stdin` has histories and tables, and
-//! `stdout` what docs/SPACE.md says of each. Read `words` and `turns` for how a line is spelled.
+//! `stdout` what docs/SPACE.md says of each. Read `words` and `turns` for how a line is spelled, and `storing` for how a
+//! stored space is shown.
 #![tactic(auto)]
 
+mod storing;
 mod turns;
 mod words;
 
@@ -25,6 +28,7 @@ use std::alloc::Global;
 use std::io::{BufRead, BufReader};
 use std::str::SplitWhitespace;
 use std::{fmt, io};
+use storing::show_start;
 use turns::turn_of;
 use words::{Fault, life, number, said_life, template, tuple, value, word};
 
@@ -144,6 +148,9 @@ fn answer(alloc: Global, replay: &mut Replay, line: &str) -> Result<Said, Fault>
 fn show_line(rt: &impl Print, alloc: Global, replay: &mut Replay, line: &str) -> io::Result<()> {
     if line.starts_with('#') {
         return println!(rt; "{line}");
+    }
+    if line == "start" {
+        return show_start(rt, alloc, replay);
     }
     match answer(alloc, replay, line) {
         Ok(said) => println!(rt; "{said}"),
