@@ -1,5 +1,5 @@
 -- Where the input is nothing or one request and no fault came, the session ends well.
-use Rattle.std.proofs.Common.{◌≡◌, ℕ, ◌+◌, ◌<◌, ◌≤◌, ◌-◌, ◌^◌, min, List, [], ◌∷◌, ◌++◌, length, take, drop, refl, sym, ◌∙◌, ap, subst, append_assoc, length-append, arith, inl, inr, ◌⊎◌, Some, None}
+use Rattle.std.proofs.Common.{◌≡◌, ℕ, ◌≤◌, ◌-◌, ◌^◌, List, [], ◌∷◌, ◌++◌, length, drop, refl, sym, ◌∙◌, ap, subst, append_assoc, length-append, arith, inl, inr, ◌⊎◌, Some, None}
 use Rattle.std.proofs.lemmas.List.{append-nil}
 use Rattle.std.specs.declared.option.Option.{Option}
 use Rattle.byteorder.specs.Endian.{big_number}
@@ -9,9 +9,9 @@ use Rattle.rinda_rules.specs.declared.turn.Turn.{Turn}
 use Rattle.marshal_grammar.proofs.LongLists.{drop_seam}
 use Rattle.drb_server.specs.declared.session.SessionEnd.{SessionEnd}
 use Rattle.drb_server.specs.declared.session.SessionEnd.TheVariants.{Ended, ReadFault, WriteFault, Memory, NotBuilt}
-use Rattle.drb_server.specs.Requests.{IsRequest, NoRequest, before, nil_packet}
-use Rattle.drb_server.specs.Sessions.{Served, nothing, request, In, Session, status_of, IsWhole}
-use Rattle.drb_server.proofs.FirstRequest.{Opened, opened}
+use Rattle.drb_server.specs.Requests.{IsRequest, before, nil_packet}
+use Rattle.drb_server.specs.Sessions.{Served, nothing, request, In, Moment, Session, status_of, IsWhole}
+use Rattle.drb_server.proofs.FirstRequest.{opened}
 
 longer_than : (limit : ℕ) (b bytes rest : List ℕ) (c : ℕ) (items vs : List Tree) → IsRequest limit b items → IsRequest limit bytes vs → bytes ≡ b ++ (c ∷ rest) → ⊥
 longer_than limit b bytes rest c items vs q r e =
@@ -48,8 +48,8 @@ ends_well limit n0 n m0 m WriteFault served bytes l' whole fine good i o h = abs
 ends_well limit n0 n m0 m Memory served bytes l' whole fine good i o h = inr refl
 ends_well limit n0 n m0 m NotBuilt served bytes l' whole fine good i o h = absurd (told_else limit n0 n served bytes l' whole fine h)
 
-pub completes : (limit n0 n m0 m caller status : ℕ) (end : SessionEnd) (turns : List Turn) (bytes : List ℕ) (l l' g g' r r' : Option (List ℕ)) → status ≡ status_of end → Session limit n m caller end turns l l' g g' r r' → (end ≡ ReadFault → Rose n0 n) → (end ≡ WriteFault → Rose m0 m) → l ≡ Some bytes → IsWhole limit bytes → (Rose n0 n → ⊥) → (Rose m0 m → ⊥) → (status ≡ 0) ⊎ (status ≡ 7)
-completes limit n0 n m0 m caller status end turns bytes l l' g g' r r' named session i o is whole fine good =
-    let h : Told (Some bytes) l' n (In limit end session.served) = subst (λ (l : Option (List ℕ)). Told l l' n (In limit end session.served)) is session.input in
-    let k = ends_well limit n0 n m0 m end session.served bytes l' whole fine good i o h in
+pub completes : (limit n0 m0 caller status : ℕ) (end : SessionEnd) (turns : List Turn) (bytes : List ℕ) (old new : Moment) → status ≡ status_of end → Session limit caller end turns old new → (end ≡ ReadFault → Rose n0 new.in_faults) → (end ≡ WriteFault → Rose m0 new.out_faults) → old.left ≡ Some bytes → IsWhole limit bytes → (Rose n0 new.in_faults → ⊥) → (Rose m0 new.out_faults → ⊥) → (status ≡ 0) ⊎ (status ≡ 7)
+completes limit n0 m0 caller status end turns bytes old new named session i o is whole fine good =
+    let h : Told (Some bytes) new.left new.in_faults (In limit end session.served) = subst (λ (l : Option (List ℕ)). Told l new.left new.in_faults (In limit end session.served)) is session.input in
+    let k = ends_well limit n0 new.in_faults m0 new.out_faults end session.served bytes new.left whole fine good i o h in
     elim k [ inl a ↦ inl (named ∙ a) | inr b ↦ inr (named ∙ b) ]

@@ -1,15 +1,15 @@
 -- The text of the reply to the first write.
-use Rattle.std.proofs.Common.{◌≡◌, ℕ, List, [], ◌∷◌, ◌++◌, true, refl, ap, ◌∙◌, pos, sym}
+use Rattle.std.proofs.Common.{◌≡◌, ℕ, List, [], ◌∷◌, ◌++◌, true, ap, ◌∙◌, pos}
 use Rattle.std.specs.Prelude.{codes}
-use Rattle.drb_tree.specs.declared.Tree.{Tree}
 use Rattle.drb_tree.specs.declared.Tree.TheOpen.{Tree-F}
-use Rattle.drb_tree.specs.declared.Tree.TheFolds.{fold-Tree, fold-roll-Tree}
+use Rattle.drb_tree.specs.declared.Tree.TheFolds.{fold-roll-Tree}
 use Rattle.drb_tree.specs.declared.Code.TheVariants.{Utf8}
 use Rattle.drb_tree.specs.declared.RefId.TheVariants.{Number}
 use Rattle.drb_tree.specs.declared.Remote.{Remote}
 use Rattle.marshal_grammar.specs.Spelled.{spelled, Writing, writing_step}
-use Rattle.marshal_grammar.specs.Trees.{bool, remote}
-use Rattle.drb_server.specs.Replies.{packet, reply_text, reference}
+use Rattle.marshal_grammar.specs.Trees.{bool}
+use Rattle.drb_packet.specs.Texts.{packet_text, reply_text}
+use Rattle.drb_server.specs.Replies.{reference}
 
 spelled_true : spelled (bool true) ≡ 4 ∷ 8 ∷ 84 ∷ []
 spelled_true = ap (λ (w : Writing). 4 ∷ 8 ∷ (w []).0) (fold-roll-Tree Writing writing_step (Tree-F.Bool true))
@@ -26,4 +26,4 @@ first_reply = 0 ∷ 0 ∷ 0 ∷ 3 ∷ 4 ∷ 8 ∷ 84 ∷ 0 ∷ 0 ∷ 0 ∷ 56 �
 
 -- they are the reply of success with the reference of the first object
 pub first_reply_is : reply_text true (reference 1) ≡ first_reply
-first_reply_is = ap (λ (t : List ℕ). packet t ++ packet (spelled (reference 1))) spelled_true ∙ ap (λ (t : List ℕ). packet (4 ∷ 8 ∷ 84 ∷ []) ++ packet t) spelled_first
+first_reply_is = ap (λ (t : List ℕ). packet_text t ++ packet_text (spelled (reference 1))) spelled_true ∙ ap (λ (t : List ℕ). packet_text (4 ∷ 8 ∷ 84 ∷ []) ++ packet_text t) spelled_first

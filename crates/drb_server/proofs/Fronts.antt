@@ -1,17 +1,18 @@
 -- What is left is what was there without a front.
-use Rattle.std.proofs.Common.{◌≡◌, ℕ, ◌≤◌, List, [], ◌++◌, take, Bool, refl, sym, ◌∙◌, ap, append_assoc}
+use Rattle.std.proofs.Common.{ℕ, ◌≤◌, List, [], ◌++◌, take, Bool, refl, sym, ◌∙◌, ap, append_assoc}
 use Rattle.std.specs.Prelude.{Ok, Err}
 use Rattle.std.specs.declared.option.Option.{Option}
 use Rattle.std.specs.declared.result.Result.{Result}
 use Rattle.drb_outside.specs.Told.{Told, ReadTakes}
 use Rattle.drb_outside.specs.Telling.{told_as, told_on, told_same}
-use Rattle.drb_server.specs.declared.request.ReadError.{ReadError}
-use Rattle.drb_server.specs.Reads.{Taken, Fills}
+use Rattle.drb_packet.specs.declared.refusal.PacketError.{PacketError}
+use Rattle.drb_packet.specs.Reads.{Fills}
+use Rattle.drb_server.specs.Reads.{Taken}
 
 pub front_none : (l : Option (List ℕ)) (n : ℕ) → Told l l n Taken
 front_none l n = told_same Taken l n (λ x. record { taken = []; front = refl })
 
-pub front_fill : (want : ℕ) (r : Result Bool ReadError) (out out' : List ℕ) (l l' : Option (List ℕ)) (n : ℕ) → Told l l' n (Fills want r out out') → Told l l' n Taken
+pub front_fill : (want : ℕ) (r : Result Bool PacketError) (out out' : List ℕ) (l l' : Option (List ℕ)) (n : ℕ) → Told l l' n (Fills want r out out') → Told l l' n Taken
 front_fill want r out out' l l' n h = told_as (Fills want r out out') Taken l l' n (λ x y f. record { taken = f.moves.taken; front = f.moves.front }) h
 
 front_at : {E : Type 0} (r : Result ℕ E) (buf x y : List ℕ) → ReadTakes r buf x y → Taken x y

@@ -5,7 +5,6 @@ pub mod WholeLists
 pub mod FirstRequest
 pub mod Taking
 pub mod FirstReply
-pub mod Writing
 pub mod Words
 pub mod Serving
 pub mod Complete

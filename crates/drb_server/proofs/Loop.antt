@@ -1,5 +1,5 @@
 -- Reading values one after the other, as a loop does.
-use Rattle.std.proofs.Common.{◌≡◌, ℕ, zero, suc, ◌-◌, ◌+◌, ◌≤◌, ◌<◌, List, [], ◌∷◌, ◌++◌, Ok, Err, refl, sym, ap, ◌∙◌, subst, arith}
+use Rattle.std.proofs.Common.{◌≡◌, ℕ, suc, ◌-◌, ◌+◌, ◌≤◌, ◌<◌, List, [], ◌∷◌, ◌++◌, Ok, Err, refl, sym, ap, ◌∙◌, subst, arith}
 use Rattle.std.proofs.Common.{append_assoc}
 use Rattle.std.proofs.lemmas.List.{append-nil}
 use Rattle.drb_tree.specs.declared.Tree.{Tree}
@@ -7,7 +7,7 @@ use Rattle.marshal_grammar.specs.Contexts.{Context}
 use Rattle.marshal_grammar.specs.Grammar.{Grammar}
 use Rattle.marshal_grammar.specs.Reading.{Read, read, next}
 use Rattle.marshal_grammar.specs.Values.{values}
-use Rattle.drb_server.specs.Marked.{Stops, is_refused}
+use Rattle.drb_server.specs.Marked.{Stops}
 use Rattle.drb_server.specs.declared.plain.Stop.{Stop}
 use Rattle.drb_server.specs.declared.plain.Stop.TheVariants as stop
 

@@ -1,5 +1,5 @@
 -- The parts of a first session, put together.
-use Rattle.std.proofs.Common.{◌≡◌, ℕ, ◌≤◌, ◌<◌, ◌+◌, ◌-◌, ◌^◌, List, [], ◌∷◌, ◌++◌, length, take, Bool, true, false, refl, sym, ◌∙◌, ap, subst, arith, Ok, Err, None, Some}
+use Rattle.std.proofs.Common.{◌≡◌, ℕ, ◌≤◌, List, [], ◌∷◌, ◌++◌, length, take, Bool, true, false, refl, sym, ◌∙◌, ap, subst, arith, Ok, Err, None, Some}
 use Rattle.std.proofs.lemmas.List.{append-nil}
 use Rattle.std.specs.declared.option.Option.{Option}
 use Rattle.std.specs.declared.result.Result.{Result}
@@ -12,17 +12,17 @@ use Rattle.rinda_rules.specs.Legal.{Legal}
 use Rattle.rinda_rules.proofs.First.{first_write_is_legal}
 use Rattle.drb_server.specs.declared.request.First.{First}
 use Rattle.drb_server.specs.declared.request.First.TheVariants as first
-use Rattle.drb_server.specs.declared.request.ReadError.{ReadError}
-use Rattle.drb_server.specs.declared.request.ReadError.TheVariants as fault
+use Rattle.drb_packet.specs.declared.refusal.PacketError.{PacketError}
 use Rattle.drb_server.specs.declared.session.SessionEnd.{SessionEnd}
 use Rattle.drb_server.specs.declared.session.SessionEnd.TheVariants.{Ended, ReadFault, WriteFault, Memory, NotBuilt}
-use Rattle.drb_server.specs.Requests.{IsRequest, NoRequest}
+use Rattle.drb_server.specs.Requests.{IsRequest}
 use Rattle.drb_server.specs.Reads.{ReadsFirst, ReadsEnd}
-use Rattle.drb_server.specs.Replies.{reply_text, reference}
-use Rattle.drb_server.specs.Writes.{WritesAll}
+use Rattle.drb_packet.specs.Texts.{reply_text}
+use Rattle.drb_packet.specs.Writes.{WritesAll}
+use Rattle.drb_server.specs.Replies.{reference}
 use Rattle.drb_server.specs.Clocks.{ReadsAll}
 use Rattle.drb_server.specs.Turns.{first_write}
-use Rattle.drb_server.specs.Sessions.{Served, nothing, request, turns_of, text_of, In, Out, Behind, Answers, Session, status_of, Runs}
+use Rattle.drb_server.specs.Sessions.{Served, nothing, request, turns_of, In, Out, Behind, Moment, Answers, Session, status_of, Runs}
 use Rattle.drb_server.proofs.FirstReply.{first_reply, first_reply_is}
 
 reads_one : (a b : Option (List ℕ)) (x : ℕ) → Reads a b x → ReadsAll a b (x ∷ [])
@@ -35,6 +35,11 @@ reads_none : (a : Option (List ℕ)) → ReadsAll a a []
 reads_none None = tt
 reads_none (Some x) = sym (append-nil x)
 
+-- what is told, part by part
+abbrev pub tells : Option (List ℕ) → ℕ → Option (List ℕ) → ℕ → Option (List ℕ) → Moment
+tells left in_faults given out_faults readings =
+    record { left = left; given = given; readings = readings; in_faults = in_faults; out_faults = out_faults }
+
 -- A request is answered.
 
 made_first : (turns : List Turn) (caller at id : ℕ) (value : List Tree) → turns ≡ first_write caller at value id ∷ [] → id ≡ 1 → turns ≡ first_write caller at value 1 ∷ []
@@ -45,8 +50,8 @@ whole_out end ok bytes x y e f out h =
     let w : y ≡ x ++ bytes = subst (λ (b : Bool). WritesAll b bytes x y) e h in
     (reply_text true (reference 1), w ∙ ap (λ q. x ++ q) (f ∙ sym first_reply_is), out (reply_text true (reference 1)))
 
-pub answers_whole : (n m caller : ℕ) (end : SessionEnd) (value : List Tree) (turns : List Turn) (l l' g g' r r' : Option (List ℕ)) (at id : ℕ) (ok : Bool) (bytes : List ℕ) → turns ≡ first_write caller at value id ∷ [] → id ≡ 1 → Told l l' n (Behind end) → ok ≡ true → bytes ≡ first_reply → ((t : List ℕ) → Out end t t) → Told g g' m (WritesAll ok bytes) → Reads r r' at → Answers n m caller end value turns l l' g g' r r'
-answers_whole n m caller end value turns l l' g g' r r' at id ok bytes made one input ok_is same out output clock = record {
+pub answers_whole : (n0 n m0 m caller : ℕ) (end : SessionEnd) (value : List Tree) (turns : List Turn) (l l' g g' r r' : Option (List ℕ)) (at id : ℕ) (ok : Bool) (bytes : List ℕ) → turns ≡ first_write caller at value id ∷ [] → id ≡ 1 → Told l l' n (Behind end) → ok ≡ true → bytes ≡ first_reply → ((t : List ℕ) → Out end t t) → Told g g' m (WritesAll ok bytes) → Reads r r' at → Answers caller end value turns (tells l n0 g m0 r) (tells l' n g' m r')
+answers_whole n0 n m0 m caller end value turns l l' g g' r r' at id ok bytes made one input ok_is same out output clock = record {
   at = at;
   made = made_first turns caller at id value made one;
   input = input;
@@ -59,8 +64,8 @@ cut_out ok bytes x y e f h =
     let w : (n : ℕ) × (y ≡ x ++ take n bytes) = subst (λ (b : Bool). WritesAll b bytes x y) e h in
     (take w.0 bytes, w.1, (w.0, ap (λ t. take w.0 t) (f ∙ sym first_reply_is)))
 
-pub answers_cut : (n m caller : ℕ) (value : List Tree) (turns : List Turn) (l g g' r r' : Option (List ℕ)) (at id : ℕ) (ok : Bool) (bytes : List ℕ) → turns ≡ first_write caller at value id ∷ [] → id ≡ 1 → ok ≡ false → bytes ≡ first_reply → Told g g' m (WritesAll ok bytes) → Reads r r' at → Answers n m caller WriteFault value turns l l g g' r r'
-answers_cut n m caller value turns l g g' r r' at id ok bytes made one off same output clock = record {
+pub answers_cut : (n0 n m0 m caller : ℕ) (value : List Tree) (turns : List Turn) (l g g' r r' : Option (List ℕ)) (at id : ℕ) (ok : Bool) (bytes : List ℕ) → turns ≡ first_write caller at value id ∷ [] → id ≡ 1 → ok ≡ false → bytes ≡ first_reply → Told g g' m (WritesAll ok bytes) → Reads r r' at → Answers caller WriteFault value turns (tells l n0 g m0 r) (tells l n g' m r')
+answers_cut n0 n m0 m caller value turns l g g' r r' at id ok bytes made one off same output clock = record {
   at = at;
   made = made_first turns caller at id value made one;
   input = told_same (Behind WriteFault) l n (λ x. refl);
@@ -69,14 +74,14 @@ answers_cut n m caller value turns l g g' r r' at id ok bytes made one off same 
 }
 
 -- the input after the request: it has ended, goes on, or failed
-pub behind_ended : (q : Result Bool ReadError) (n : ℕ) (l l' : Option (List ℕ)) → q ≡ Ok true → Told l l' n (ReadsEnd q) → Told l l' n (Behind Ended)
-behind_ended q n l l' e h = told_as (ReadsEnd q) (Behind Ended) l l' n (λ x y k. subst (λ (q : Result Bool ReadError). ReadsEnd q x y) e k) h
+pub behind_ended : (q : Result Bool PacketError) (n : ℕ) (l l' : Option (List ℕ)) → q ≡ Ok true → Told l l' n (ReadsEnd q) → Told l l' n (Behind Ended)
+behind_ended q n l l' e h = told_as (ReadsEnd q) (Behind Ended) l l' n (λ x y k. subst (λ (q : Result Bool PacketError). ReadsEnd q x y) e k) h
 
-pub behind_more : (q : Result Bool ReadError) (n : ℕ) (l l' : Option (List ℕ)) → q ≡ Ok false → Told l l' n (ReadsEnd q) → Told l l' n (Behind NotBuilt)
-behind_more q n l l' e h = told_as (ReadsEnd q) (Behind NotBuilt) l l' n (λ x y k. subst (λ (q : Result Bool ReadError). ReadsEnd q x y) e k) h
+pub behind_more : (q : Result Bool PacketError) (n : ℕ) (l l' : Option (List ℕ)) → q ≡ Ok false → Told l l' n (ReadsEnd q) → Told l l' n (Behind NotBuilt)
+behind_more q n l l' e h = told_as (ReadsEnd q) (Behind NotBuilt) l l' n (λ x y k. subst (λ (q : Result Bool PacketError). ReadsEnd q x y) e k) h
 
-pub behind_fault : (q : Result Bool ReadError) (f : ReadError) (n : ℕ) (l l' : Option (List ℕ)) → q ≡ Err f → Told l l' n (ReadsEnd q) → Told l l' n (Behind ReadFault)
-behind_fault q f n l l' e h = told_as (ReadsEnd q) (Behind ReadFault) l l' n (λ x y k. subst (λ (q : Result Bool ReadError). ReadsEnd q x y) e k) h
+pub behind_fault : (q : Result Bool PacketError) (f : PacketError) (n : ℕ) (l l' : Option (List ℕ)) → q ≡ Err f → Told l l' n (ReadsEnd q) → Told l l' n (Behind ReadFault)
+behind_fault q f n l l' e h = told_as (ReadsEnd q) (Behind ReadFault) l l' n (λ x y k. subst (λ (q : Result Bool PacketError). ReadsEnd q x y) e k) h
 
 -- A session.
 
@@ -103,9 +108,9 @@ in_told limit n k end items value at (Some x) None (Some z) same le h t = absurd
 in_told limit n k end items value at (Some x) (Some y) None same le h t = t
 in_told limit n k end items value at (Some x) (Some y) (Some z) same le h t = in_at limit end h.0 x y z value at (subst (λ (vs : List Tree). IsRequest limit h.0 vs) (sym same) h.1) h.2 t
 
-pub serves_request : (limit n k m caller : ℕ) (end : SessionEnd) (items : List Tree) (value : List Tree) (turns : List Turn) (q : Result First ReadError) (f : First) (l mid l' g g' r r' : Option (List ℕ)) → q ≡ Ok f → f ≡ first.Request items → value ≡ items → n ≤ k → Told l mid n (ReadsFirst limit q) → Answers k m caller end value turns mid l' g g' r r' → Session limit k m caller end turns l l' g g' r r'
-serves_request limit n k m caller end items value turns q f l mid l' g g' r r' is that same le h a =
-    let t : Told l mid n (ReadsFirst limit (Ok (first.Request items))) = subst (λ (f : First). Told l mid n (ReadsFirst limit (Ok f))) that (subst (λ (q : Result First ReadError). Told l mid n (ReadsFirst limit q)) is h) in
+pub serves_request : (limit n0 n k m0 m caller : ℕ) (end : SessionEnd) (items : List Tree) (value : List Tree) (turns : List Turn) (q : Result First PacketError) (f : First) (l mid l' g g' r r' : Option (List ℕ)) → q ≡ Ok f → f ≡ first.Request items → value ≡ items → n ≤ k → Told l mid n (ReadsFirst limit q) → Answers caller end value turns (tells mid n g m0 r) (tells l' k g' m r') → Session limit caller end turns (tells l n0 g m0 r) (tells l' k g' m r')
+serves_request limit n0 n k m0 m caller end items value turns q f l mid l' g g' r r' is that same le h a =
+    let t : Told l mid n (ReadsFirst limit (Ok (first.Request items))) = subst (λ (f : First). Told l mid n (ReadsFirst limit (Ok f))) that (subst (λ (q : Result First PacketError). Told l mid n (ReadsFirst limit q)) is h) in
     record {
       served = request (front_of limit items l mid n t) value a.at;
       made = a.made;
@@ -115,8 +120,8 @@ serves_request limit n k m caller end items value turns q f l mid l' g g' r r' i
     }
 
 -- nothing was served
-pub serves_nothing : (limit n m caller : ℕ) (end : SessionEnd) (turns : List Turn) (l l' g r : Option (List ℕ)) → turns ≡ [] → Told l l' n (In limit end nothing) → Out end [] [] → Session limit n m caller end turns l l' g g r r
-serves_nothing limit n m caller end turns l l' g r none input out = record {
+pub serves_nothing : (limit n0 n m0 m caller : ℕ) (end : SessionEnd) (turns : List Turn) (l l' g r : Option (List ℕ)) → turns ≡ [] → Told l l' n (In limit end nothing) → Out end [] [] → Session limit caller end turns (tells l n0 g m0 r) (tells l' n g m r)
+serves_nothing limit n0 n m0 m caller end turns l l' g r none input out = record {
   served = nothing;
   made = none;
   input = input;
@@ -134,8 +139,8 @@ few_turns : (served : Served) → length (turns_of 0 served) ≤ 1
 few_turns nothing = omega arith
 few_turns (request bytes value at) = omega arith
 
-pub runs : (limit n m status : ℕ) (end : SessionEnd) (turns : List Turn) (l l' g g' r r' : Option (List ℕ)) → status ≡ status_of end → Session limit n m 0 end turns l l' g g' r r' → Runs limit n m status l l' g g' r r'
-runs limit n m status end turns l l' g g' r r' is s = record {
+pub runs : (limit status : ℕ) (end : SessionEnd) (turns : List Turn) (old new : Moment) → status ≡ status_of end → Session limit 0 end turns old new → Runs limit status old new
+runs limit status end turns old new is s = record {
   history = turns;
   legal = subst (λ (h : List Turn). Legal h) (sym s.made) (legal_turns s.served);
   few = subst (λ (h : List Turn). length h ≤ 1) (sym s.made) (few_turns s.served);

@@ -1,12 +1,12 @@
 -- Reading a symbol as a value, from reading its bytes.
-use Rattle.std.proofs.Common.{◌≡◌, ℕ, List, Ok, Err, true, refl, sym, ap, ◌∙◌, subst}
+use Rattle.std.proofs.Common.{◌≡◌, ℕ, List, Ok, Err, refl, sym, ap, subst}
 use Rattle.drb_tree.specs.declared.Tree.{Tree}
 use Rattle.marshal_grammar.specs.Contexts.{Context}
 use Rattle.marshal_grammar.specs.Grammar.{Grammar}
 use Rattle.marshal_grammar.specs.Reading.{Read, read, next}
 use Rattle.marshal_grammar.specs.Values.{symbol_value}
 use Rattle.drb_server.specs.Plainly.{named}
-use Rattle.drb_server.specs.Marked.{Stops, is_refused}
+use Rattle.drb_server.specs.Marked.{Stops}
 use Rattle.drb_server.specs.declared.plain.Stop.{Stop}
 use Rattle.drb_server.specs.declared.plain.Stop.TheVariants as stop
 

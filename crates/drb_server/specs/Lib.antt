@@ -3,7 +3,6 @@ pub mod Marked
 pub mod Requests
 pub mod Reads
 pub mod Replies
-pub mod Writes
 pub mod Clocks
 pub mod Turns
 pub mod Sessions

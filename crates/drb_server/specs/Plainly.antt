@@ -1,12 +1,12 @@
 -- The list of a first request, which is spelled plainly: docs/SESSIONS.md, The first request.
-use Rattle.std.specs.Prelude.{ℕ, List, Option, Some, None, true, false, ◌==◌}
+use Rattle.std.specs.Prelude.{ℕ, List, true, false, ◌==◌}
 use Rattle.drb_tree.specs.declared.Tree.{Tree}
 use Rattle.drb_tree.specs.Sizes.{heavy}
 use Rattle.marshal_grammar.specs.declared.kind.Kind.{Kind}
 use Rattle.marshal_grammar.specs.declared.kind.Kind.TheVariants as kind
 use Rattle.marshal_grammar.specs.declared.refusal.Why.TheVariants as why
 use Rattle.marshal_grammar.specs.Contexts.{Context, opening}
-use Rattle.marshal_grammar.specs.Grammar.{Grammar, gives, refuses, must, byte, ◌>>=◌, ◌>>◌, here, just_read, Spells}
+use Rattle.marshal_grammar.specs.Grammar.{Grammar, gives, refuses, must, byte, ◌>>=◌, ◌>>◌, here, Spells}
 use Rattle.marshal_grammar.specs.Counts.{count, count_nodes}
 use Rattle.marshal_grammar.specs.Symbols.{plain_symbol, linked_symbol}
 use Rattle.marshal_grammar.specs.Trees.{nil, bool, sym}

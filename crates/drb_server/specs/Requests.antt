@@ -1,5 +1,5 @@
 -- The first request: docs/SESSIONS.md, The first request.
-use Rattle.std.specs.Prelude.{◌≡◌, ℕ, ◌<◌, ◌+◌, List, [], ◌∷◌, ◌++◌, length, take, drop}
+use Rattle.std.specs.Prelude.{◌≡◌, ℕ, ◌<◌, List, [], ◌∷◌, ◌++◌, length, take, drop}
 use Rattle.byteorder.specs.Endian.{big_number}
 use Rattle.drb_tree.specs.declared.Tree.{Tree}
 use Rattle.drb_server.specs.Plainly.{IsPlainDump}

@@ -8,7 +8,8 @@ use Rattle.rinda_rules.specs.Legal.{Legal}
 use Rattle.drb_server.specs.declared.session.SessionEnd.{SessionEnd}
 use Rattle.drb_server.specs.declared.session.SessionEnd.TheVariants.{Ended, ReadFault, WriteFault, Memory, NotBuilt}
 use Rattle.drb_server.specs.Requests.{IsRequest, NoRequest}
-use Rattle.drb_server.specs.Replies.{reply_text, reference}
+use Rattle.drb_packet.specs.Texts.{reply_text}
+use Rattle.drb_server.specs.Replies.{reference}
 use Rattle.drb_server.specs.Clocks.{ReadsAll}
 use Rattle.drb_server.specs.Turns.{first_write}
 
@@ -55,17 +56,37 @@ Out ReadFault text written = written ≡ text
 Out Memory text written = written ≡ text
 Out NotBuilt text written = written ≡ text
 
--- A whole session of one caller with its end and the turns that it made, over what the input, the output and the clock
--- told before and after. n and m are the input's and the output's counts of faults.
-pub record Session (limit n m caller : ℕ) (end : SessionEnd) (turns : List Turn)
-    (left left' given given' read read' : Option (List ℕ)) : Type 0 where
+-- What is told at one moment: what is left of the input, what the output was given, what the clock read, and how often
+-- the input and the output failed by then.
+pub record Moment : Type 0 where
+  pub left : Option (List ℕ)
+  pub given : Option (List ℕ)
+  pub readings : Option (List ℕ)
+  pub in_faults : ℕ
+  pub out_faults : ℕ
+
+-- the moment of an input, an output and a clock, by what tells it of each
+abbrev pub moment : {S K C : Type 0} →
+    (S → Option (List ℕ)) → (S → ℕ) → (K → Option (List ℕ)) → (K → ℕ) → (C → Option (List ℕ)) →
+    S → K → C → Moment
+moment left in_faults given out_faults readings input output clock = record {
+  left = left input;
+  given = given output;
+  readings = readings clock;
+  in_faults = in_faults input;
+  out_faults = out_faults output;
+}
+
+-- A whole session of one caller with its end and the turns that it made, from one moment to another.
+pub record Session (limit caller : ℕ) (end : SessionEnd) (turns : List Turn) (old new : Moment) : Type
+    0 where
   pub served : Served
   pub made : turns ≡ turns_of caller served
-  pub input : Told left left' n (In limit end served)
-  pub output : Told given given' m
+  pub input : Told old.left new.left new.in_faults (In limit end served)
+  pub output : Told old.given new.given new.out_faults
       (λ given given'. (written : List ℕ) × (given' ≡ given ++ written)
       × Out end (text_of served) written)
-  pub clock : ReadsAll read read' (map (λ t. t.at) (turns_of caller served))
+  pub clock : ReadsAll old.readings new.readings (map (λ t. t.at) (turns_of caller served))
 
 -- What stands in the input behind the request, and what of it is left: nothing at Ended, a further byte at NotBuilt.
 abbrev pub Behind : SessionEnd → List ℕ → List ℕ → Type 0
@@ -76,15 +97,15 @@ Behind Memory left left' = ⊥
 Behind NotBuilt left left' = (b : ℕ) × (rest : List ℕ) × (left ≡ b ∷ rest)
 
 -- a request that was read is served: its turn, its reply, and what stands behind it
-pub record Answers (n m caller : ℕ) (end : SessionEnd) (items : List Tree) (turns : List Turn)
-    (left left' given given' read read' : Option (List ℕ)) : Type 0 where
+pub record Answers (caller : ℕ) (end : SessionEnd) (items : List Tree) (turns : List Turn)
+    (old new : Moment) : Type 0 where
   pub at : ℕ
   pub made : turns ≡ first_write caller at items 1 ∷ []
-  pub input : Told left left' n (Behind end)
-  pub output : Told given given' m
+  pub input : Told old.left new.left new.in_faults (Behind end)
+  pub output : Told old.given new.given new.out_faults
       (λ given given'. (written : List ℕ) × (given' ≡ given ++ written)
       × Out end (reply_text true (reference 1)) written)
-  pub clock : ReadsAll read read' (at ∷ [])
+  pub clock : ReadsAll old.readings new.readings (at ∷ [])
 
 -- the status that names the end
 abbrev pub status_of : SessionEnd → ℕ
@@ -96,14 +117,13 @@ status_of NotBuilt = 9
 
 -- A whole run: there is a legal history of at most one turn, of caller 0 alone, whose turns are those of a session with
 -- the end that the status names.
-pub record Runs (limit n m status : ℕ) (left left' given given' read read' : Option (List ℕ)) : Type
-    0 where
+pub record Runs (limit status : ℕ) (old new : Moment) : Type 0 where
   pub history : List Turn
   pub legal : Legal history
   pub few : length history ≤ 1
   pub end : SessionEnd
   pub status_is : status ≡ status_of end
-  pub session : Session limit n m 0 end history left left' given given' read read'
+  pub session : Session limit 0 end history old new
 
 -- these bytes are nothing, or one request and nothing more
 abbrev pub IsWhole : ℕ → List ℕ → Type 0

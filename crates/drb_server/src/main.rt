@@ -2,8 +2,8 @@
 //!
 //! Today it has one command, `drbts stdio`, which serves one request off standard input. All that the command does is
 //! one public call, `session::stdio_run`, which takes what it meets outside as arguments; `main` is the adapters over
-//! the system and that call. Stands on the rules of the space, the grammar of dumps and the outside. Read `session`,
-//! then `request` and `plain`, which read the request, `space`, which makes the turn, and `write`; `edge` has the
+//! the system and that call. Stands on the rules of the space, the grammar of dumps, packets and the outside. Read
+//! `session`, then `request` and `plain`, which read the request, and `space`, which makes the turn; `edge` has the
 //! adapters.
 #![tactic(auto)]
 
@@ -13,7 +13,6 @@ mod plain;
 mod request;
 mod session;
 mod space;
-mod write;
 
 use crate::edge::{Reading, WallClock, Writing};
 use crate::session::stdio_run;

@@ -1,14 +1,15 @@
 // The first request off a source, in whatever pieces it gives.
-ghost use Rattle.std.specs.Prelude.{◌≡◌, ◌≤◌, ◌<◌, ◌^◌, ◌++◌, ◌+◌, ℕ, List, length, take, drop, IfOk, OnErr, vec_len, IsErrOf, IsTrue, MatchOption, ◌↔◌};
+ghost use Rattle.std.specs.Prelude.{◌≡◌, ◌≤◌, ◌<◌, ◌^◌, ◌+◌, List, length, take, drop, IfOk, OnErr, IsErrOf, IsTrue, MatchOption, ◌↔◌};
 ghost use Rattle.drb_tree.specs.declared.Tree.{Tree};
 ghost use Rattle.drb_outside.specs.Told.{Told, Rose};
 ghost use Rattle.drb_server.specs.Requests.{IsTail, before, nil_packet};
-ghost use Rattle.drb_server.specs.Reads.{Taken, Fills, ReadsFirst, ReadsMore, ReadsTail, ReadsEnd};
+ghost use Rattle.drb_server.specs.Reads.{Taken, ReadsFirst, ReadsTail, ReadsEnd};
 ghost use Rattle.byteorder.specs.Endian.{big_number};
 
 use crate::plain::read_plain;
 use byteorder::{BigEndian, ByteOrder};
 use drb_outside::Source;
+use drb_packet::{PacketError, fill};
 use drb_value::Value;
 use sqlite_items::Items;
 use std::alloc::{AllocError, Global};
@@ -24,14 +25,6 @@ pub enum First {
     Other,
 }
 
-/// Why the first request was not read.
-#[derive(Clone, Copy, Debug, PartialEq, Eq)]
-pub enum ReadError {
-    /// The source failed, and counted it.
-    ReadFault,
-    Memory,
-}
-
 /// The packets of nil, of the text `write` in US-ASCII and of 1.
 const BEFORE: [u8; 34] = [
     0, 0, 0, 3, 4, 8, 48, 0, 0, 0, 15, 4, 8, 73, 34, 10, 119, 114, 105, 116, 101, 6, 58, 6, 69, 70,
@@ -40,50 +33,6 @@ const BEFORE: [u8; 34] = [
 
 /// The packet of nil.
 const NIL_PACKET: [u8; 7] = [0, 0, 0, 3, 4, 8, 48];
-
-const CHUNK: usize = 512;
-
-/// One read of at most the room that is left there, added to the list; says how many bytes it gave.
-fn read_more<S: Source>(source: &mut S, out: &mut Vec<u8>, room: usize) -> Result<usize, ReadError>
-    requires { 0 < room }
-    ensures bytes { Told (S.left source.old) (S.left source.new) (S.faults source.new)
-        (ReadsMore result out.old.items out.new.items) }
-    ensures bound { IfOk result (λ n. (n ≤ room) × (vec_len out.new ≡ vec_len out.old + n)) }
-    ensures same { OnErr result (vec_len out.new ≡ vec_len out.old) }
-    ensures later { S.faults source.old ≤ S.faults source.new }
-    ensures failed { IsErrOf result ReadError.ReadFault →
-        Rose (S.faults source.old) (S.faults source.new) }
-{
-    let room = room.min(CHUNK);
-    if out.reserve(room).is_err() {
-        return Err(ReadError::Memory);
-    }
-    let mut chunk = [0; CHUNK];
-    let Ok(count) = source.read(&mut chunk[..room]) else {
-        return Err(ReadError::ReadFault);
-    };
-    out.extend_from_slice(&chunk[..count]).unwrap();
-    Ok(count)
-}
-
-/// Fills the list up to the wanted number, by as many reads as it takes. False where the source ended first.
-fn fill<S: Source>(source: &mut S, out: &mut Vec<u8>, want: usize) -> Result<bool, ReadError>
-    requires { vec_len out.old ≤ want }
-    ensures bytes { Told (S.left source.old) (S.left source.new) (S.faults source.new)
-        (Fills want result out.old.items out.new.items) }
-    ensures full { IfOk result (λ b. IsTrue b → vec_len out.new ≡ want) }
-    ensures later { S.faults source.old ≤ S.faults source.new }
-    ensures failed { IsErrOf result ReadError.ReadFault →
-        Rose (S.faults source.old) (S.faults source.new) }
-{
-    while out.len() < want {
-        let count = read_more(source, out, want - out.len())?;
-        if count == 0 {
-            return Ok(false);
-        }
-    }
-    Ok(true)
-}
 
 /// True where the packets before the tuple's size and after its body are those of a request.
 fn is_framed(front: &[u8], closing: &[u8]) -> bool
@@ -133,7 +82,7 @@ fn read_tail<S: Source>(
     limit: u32,
     header: &[u8],
     size: u32,
-) -> Result<First, ReadError>
+) -> Result<First, PacketError>
     requires header { length header.now ≡ 38 }
     requires sized { size ≡ big_number 4 (drop 34 header.now) }
     requires small { size < limit }
@@ -141,7 +90,7 @@ fn read_tail<S: Source>(
         (ReadsTail limit header.now result) }
     ensures front { Told (S.left source.old) (S.left source.new) (S.faults source.new) Taken }
     ensures later { S.faults source.old ≤ S.faults source.new }
-    ensures failed { IsErrOf result ReadError.ReadFault →
+    ensures failed { IsErrOf result PacketError.ReadFault →
         Rose (S.faults source.old) (S.faults source.new) }
 {
     let size = size as usize;
@@ -152,7 +101,7 @@ fn read_tail<S: Source>(
     match items_of(alloc, header, size, &tail) {
         Ok(Some(items)) => Ok(First::Request(items)),
         Ok(None) => Ok(First::Other),
-        Err(_) => Err(ReadError::Memory),
+        Err(_) => Err(PacketError::Memory),
     }
 }
 
@@ -162,12 +111,16 @@ fn read_tail<S: Source>(
 /// `limit` is in bytes: a size at or above it is something else.
 /// Errors: `ReadFault` only where the source's own count of faults rose; `Memory` at any time.
 /// Source: Ruby's drb.rb, DRbMessage#recv_request; docs/SESSIONS.md, The first request.
-pub fn read_first<S: Source>(alloc: Global, source: &mut S, limit: u32) -> Result<First, ReadError>
+pub fn read_first<S: Source>(
+    alloc: Global,
+    source: &mut S,
+    limit: u32,
+) -> Result<First, PacketError>
     ensures first { Told (S.left source.old) (S.left source.new) (S.faults source.new)
         (ReadsFirst limit result) }
     ensures front { Told (S.left source.old) (S.left source.new) (S.faults source.new) Taken }
     ensures later { S.faults source.old ≤ S.faults source.new }
-    ensures failed { IsErrOf result ReadError.ReadFault →
+    ensures failed { IsErrOf result PacketError.ReadFault →
         Rose (S.faults source.old) (S.faults source.new) }
 {
     let mut header = Vec::new(alloc);
@@ -188,7 +141,7 @@ pub fn read_first<S: Source>(alloc: Global, source: &mut S, limit: u32) -> Resul
 /// True where the input has ended, by one read of one byte; false where a further byte stood there.
 ///
 /// Errors: `ReadFault` only where the source's own count of faults rose; nothing was taken then.
-pub fn is_at_end<S: Source>(source: &mut S) -> Result<bool, ReadError>
+pub fn is_at_end<S: Source>(source: &mut S) -> Result<bool, PacketError>
     ensures end { Told (S.left source.old) (S.left source.new) (S.faults source.new)
         (ReadsEnd result) }
     ensures front { Told (S.left source.old) (S.left source.new) (S.faults source.new) Taken }
@@ -198,6 +151,6 @@ pub fn is_at_end<S: Source>(source: &mut S) -> Result<bool, ReadError>
     let mut byte = [0; 1];
     match source.read(&mut byte) {
         Ok(count) => Ok(count == 0),
-        Err(_) => Err(ReadError::ReadFault),
+        Err(_) => Err(PacketError::ReadFault),
     }
 }

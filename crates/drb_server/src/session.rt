@@ -2,13 +2,12 @@
 ghost use Rattle.std.specs.Prelude.{◌≡◌, ◌≢◌, ◌↔◌, ◌≤◌, IsTrue, map, string_bytes, [], ℕ, List, Some, ◌⊎◌};
 ghost use Rattle.drb_outside.specs.Told.{Told, Rose};
 ghost use Rattle.drb_server.specs.Reads.{Taken};
-ghost use Rattle.drb_server.specs.Replies.{reply_text, reference};
-ghost use Rattle.drb_server.specs.Sessions.{Session, Answers, Runs, IsStdio, IsWhole, status_of, stdio};
+ghost use Rattle.drb_server.specs.Sessions.{Session, Answers, Runs, moment, IsStdio, IsWhole, status_of, stdio};
 
-use crate::request::{First, ReadError, is_at_end, read_first};
+use crate::request::{First, is_at_end, read_first};
 use crate::space::Space;
-use crate::write::write_all;
 use drb_outside::{Clock, Dialer, Sink, Source};
+use drb_packet::{PacketError, write_all};
 use drb_value::Value;
 use sqlite_items::Items;
 use std::alloc::Global;
@@ -54,9 +53,9 @@ fn answer<S: Source, K: Sink, C: Clock>(
     items: Items<Value>,
 ) -> SessionEnd
     requires { space.old.turns.items ≡ [] }
-    ensures answers { Answers (S.faults input.new) (K.faults output.new) CALLER result items
-        space.new.turns.items (S.left input.old) (S.left input.new) (K.given output.old)
-        (K.given output.new) (C.readings clock.old) (C.readings clock.new) }
+    ensures answers { Answers CALLER result items space.new.turns.items
+        (moment S.left S.faults K.given K.faults C.readings input.old output.old clock.old)
+        (moment S.left S.faults K.given K.faults C.readings input.new output.new clock.new) }
     ensures front { Told (S.left input.old) (S.left input.new) (S.faults input.new) Taken }
     ensures in_later { S.faults input.old ≤ S.faults input.new }
     ensures out_later { K.faults output.old ≤ K.faults output.new }
@@ -87,9 +86,9 @@ fn serve<S: Source, K: Sink, C: Clock>(
     clock: &mut C,
 ) -> SessionEnd
     requires { space.old.turns.items ≡ [] }
-    ensures session { Session limit (S.faults input.new) (K.faults output.new) CALLER result
-        space.new.turns.items (S.left input.old) (S.left input.new) (K.given output.old)
-        (K.given output.new) (C.readings clock.old) (C.readings clock.new) }
+    ensures session { Session limit CALLER result space.new.turns.items
+        (moment S.left S.faults K.given K.faults C.readings input.old output.old clock.old)
+        (moment S.left S.faults K.given K.faults C.readings input.new output.new clock.new) }
     ensures front { Told (S.left input.old) (S.left input.new) (S.faults input.new) Taken }
     ensures in_fault { result ≡ SessionEnd.ReadFault →
         Rose (S.faults input.old) (S.faults input.new) }
@@ -100,8 +99,8 @@ fn serve<S: Source, K: Sink, C: Clock>(
         Ok(First::Request(items)) => answer(alloc, space, input, output, clock, items),
         Ok(First::End) => SessionEnd::Ended,
         Ok(First::Other) => SessionEnd::NotBuilt,
-        Err(ReadError::ReadFault) => SessionEnd::ReadFault,
-        Err(ReadError::Memory) => SessionEnd::Memory,
+        Err(PacketError::ReadFault) => SessionEnd::ReadFault,
+        Err(PacketError::Memory) => SessionEnd::Memory,
     }
 }
 
@@ -125,9 +124,9 @@ fn run_alone<S: Source, K: Sink, C: Clock>(
     output: &mut K,
     clock: &mut C,
 ) -> u8
-    ensures run { Runs LOAD_LIMIT (S.faults input.new) (K.faults output.new) result
-        (S.left input.old) (S.left input.new) (K.given output.old) (K.given output.new)
-        (C.readings clock.old) (C.readings clock.new) }
+    ensures run { Runs LOAD_LIMIT result
+        (moment S.left S.faults K.given K.faults C.readings input.old output.old clock.old)
+        (moment S.left S.faults K.given K.faults C.readings input.new output.new clock.new) }
     ensures front { Told (S.left input.old) (S.left input.new) (S.faults input.new) Taken }
     ensures other { result ≢ 1 }
     ensures in_fault { result ≡ 4 → Rose (S.faults input.old) (S.faults input.new) }
@@ -181,9 +180,9 @@ pub fn stdio_run<S: Source, K: Sink, C: Clock, D: Dialer>(
         × (clock.new ≡ clock.old) }
     ensures no_calls { dialer.new ≡ dialer.old }
     ensures run { result.0 ≢ 1 →
-        Runs LOAD_LIMIT (S.faults input.new) (K.faults output.new) result.0 (S.left input.old)
-        (S.left input.new) (K.given output.old) (K.given output.new) (C.readings clock.old)
-        (C.readings clock.new) }
+        Runs LOAD_LIMIT result.0
+        (moment S.left S.faults K.given K.faults C.readings input.old output.old clock.old)
+        (moment S.left S.faults K.given K.faults C.readings input.new output.new clock.new) }
     ensures front { Told (S.left input.old) (S.left input.new) (S.faults input.new) Taken }
     ensures in_fault { result.0 ≡ 4 → Rose (S.faults input.old) (S.faults input.new) }
     ensures out_fault { result.0 ≡ 5 → Rose (K.faults output.old) (K.faults output.new) }

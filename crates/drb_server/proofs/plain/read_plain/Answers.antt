@@ -1,5 +1,5 @@
-use Rattle.std.proofs.Common.{◌≡◌, Ok, ap, sym, ◌∙◌, subst}
-use Rattle.marshal_grammar.specs.Contexts.{Context, opening}
+use Rattle.std.proofs.Common.{◌≡◌, Ok, sym, ◌∙◌, subst}
+use Rattle.marshal_grammar.specs.Contexts.{Context}
 use Rattle.marshal_grammar.specs.Reading.{read}
 use Rattle.drb_server.specs.declared.plain.Stop.{Stop}
 use Rattle.drb_server.specs.Plainly.{plain_list}

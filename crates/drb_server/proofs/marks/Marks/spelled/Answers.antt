@@ -1,7 +1,6 @@
-use Rattle.std.proofs.Common.{◌≡◌, ℕ, List, Ok, sym, ap, ◌∙◌, subst}
+use Rattle.std.proofs.Common.{ℕ, List, sym, ap, ◌∙◌, subst}
 use Rattle.std.proofs.lemmas.Result.{err_from_is_err_and}
-use Rattle.drb_tree.specs.declared.Tree.{Tree}
-use Rattle.marshal_grammar.specs.Reading.{Read, read}
+use Rattle.marshal_grammar.specs.Reading.{read}
 use Rattle.marshal_grammar.specs.Symbols.{plain_symbol}
 use Rattle.drb_server.specs.Plainly.{named}
 use Rattle.drb_server.specs.Marked.{seen, Stops}
