@@ -1,0 +1,5 @@
+pub mod Methods
+pub mod Faults
+pub mod Checks
+pub mod Calls
+pub mod Plans
