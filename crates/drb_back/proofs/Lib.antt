@@ -1,0 +1,6 @@
+mod Ends
+mod Lines
+mod Asking
+mod Making
+mod Causes
+mod Adding

@@ -1,0 +1,4 @@
+pub mod Answers
+pub mod Outgoing
+pub mod Steps
+pub mod Laws
