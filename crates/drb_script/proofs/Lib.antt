@@ -1,0 +1,4 @@
+pub mod Courses
+pub mod Steps
+pub mod Outer
+pub mod Standing
