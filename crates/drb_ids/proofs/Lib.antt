@@ -1,4 +1,5 @@
 pub mod StandingLists
 pub mod TableLemmas
+pub mod Reviving
 pub mod Founds
 pub mod Starting

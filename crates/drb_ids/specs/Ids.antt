@@ -16,6 +16,15 @@ pub record Ids : Type 0 where
   pub live : List LiveId
   pub ended : List Ended
 
+-- A table as it stands, and as the turn under way has made it.
+pub record Ided : Type 0 where
+  pub list : Ids
+  pub ahead : Ids
+
+-- both alike
+abbrev pub settled : Ids → Ided
+settled t = record { list = t; ahead = t }
+
 -- before the first id is given out
 abbrev pub no_ids : Ids
 no_ids = record { next = 1; live = []; ended = [] }

@@ -1,13 +1,14 @@
 -- One list of what every id names that is live or among the last that ended, and how the other lists are in it.
-use Rattle.std.specs.Prelude.{◌≡◌, ℕ, ◌≤◌, Bool, true, false, ◌&&◌, ◌||◌, nat_lt, nat_le, List, [], ◌∷◌, Option, Some, None, length}
+use Rattle.std.specs.Prelude.{◌≡◌, ℕ, ◌+◌, ◌-◌, ◌≤◌, ◌<◌, Bool, true, false, ◌&&◌, nat_lt, nat_le, List, [], ◌∷◌, Option, Some, None, length, take, drop, if◌then◌else◌}
 use Rattle.std.specs.List.{list_all}
-use Rattle.std.specs.Map.{lookup}
+use Rattle.std.specs.Map.{lookup, set_value, remove_entry}
 use Rattle.std.specs.BTreeMap.{is_at, insert_entry}
 use Rattle.std.specs.Ordering.{nat_cmp}
 use Rattle.rinda_rules.specs.declared.object.ObjectKind.{ObjectKind}
 use Rattle.rinda_rules.specs.declared.plain.Ended.{Ended}
 use Rattle.rinda_rules.specs.Rows.{row_of, rising}
-use Rattle.drb_ids.specs.Ids.{are_distinct}
+use Rattle.rinda_rules.specs.Space.{retained}
+use Rattle.drb_ids.specs.Ids.{Ids, are_distinct}
 use Rattle.drb_ids.specs.declared.object.LiveId.{LiveId}
 use Rattle.drb_ids.specs.declared.object.Standing.{Standing}
 use Rattle.drb_ids.specs.declared.object.Standing.TheVariants as standing
@@ -57,9 +58,29 @@ with_all_ended (r ∷ rs) es =
 abbrev pub are_minted : ℕ → List (ℕ × Standing) → Bool
 are_minted given es = list_all (λ e. nat_lt 0 e.0 && nat_le e.0 given) es
 
-abbrev pub is_empty : List (ℕ × Standing) → Bool
-is_empty [] = true
-is_empty (e ∷ es) = false
+-- these, which have ended, are live again
+abbrev pub revived : List Ended → List (ℕ × Standing) → List (ℕ × Standing)
+revived [] es = es
+revived (r ∷ rs) es =
+    set_value (is_at (nat_cmp r.id)) (revived rs es) (standing.Live r.kind)
+
+-- the last id that was given out names nothing, where it was given out since the table last stood
+abbrev pub without_fresh : Bool → ℕ → List (ℕ × Standing) → List (ℕ × Standing)
+without_fresh false given es = es
+without_fresh true given es = remove_entry (is_at (nat_cmp given)) es
+
+-- as the table stands, of what it is ahead: so many of the last that ended did so since
+abbrev pub stood : Bool → ℕ → ℕ → List (ℕ × Standing) → List Ended → Ids
+stood fresh more given es ended = record {
+  next = if fresh then given else given + 1;
+  live = live_of (revived (drop (length ended - more) ended) (without_fresh fresh given es));
+  ended = take (length ended - more) ended;
+}
+
+-- as it is ahead
+abbrev pub ahead_of : ℕ → List (ℕ × Standing) → List Ended → Ids
+ahead_of given es ended =
+    record { next = given + 1; live = live_of es; ended = retained ended }
 
 -- each that ended stands so, and nothing else does
 pub record IsTied (es : List (ℕ × Standing)) (ended : List Ended) : Type 0 where
@@ -67,10 +88,12 @@ pub record IsTied (es : List (ℕ × Standing)) (ended : List Ended) : Type 0 wh
   pub tied : (id : ℕ) → row_of (λ e. e.id) id ended ≡ ended_by id (standing_at id es)
   pub once : are_distinct (λ e. e.id) ended ≡ true
 
--- a whole table: where something is there, there is room for all that may be kept of what ended
-pub record IsTable (given : ℕ) (es : List (ℕ × Standing)) (ended : List Ended)
-    (capacity : ℕ) : Type 0 where
+-- A whole table. So many of the last that ended did so since it last stood, and before them were no more than are kept.
+pub record IsTable (fresh : Bool) (more given : ℕ) (es : List (ℕ × Standing))
+    (ended : List Ended) : Type 0 where
   pub standings : IsTied es ended
   pub minted : are_minted given es ≡ true
-  pub few : length ended ≤ 4096
-  pub room : (is_empty es || nat_le 4096 capacity) ≡ true
+  pub since : more ≤ length ended
+  pub few : length ended ≤ 4096 + more
+  pub last : fresh ≡ true →
+      (0 < given) × (row_of (λ e. e.id) given (take (length ended - more) ended) ≡ None)

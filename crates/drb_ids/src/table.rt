@@ -1,10 +1,11 @@
-ghost use Rattle.std.specs.Prelude.{◌≡◌, ℕ, ◌+◌, ◌-◌, ◌||◌, ◌==◌, nat_le, if◌then◌else◌, ◌^◌, ◌<◌, ◌≤◌, true, IsSome, IfOk, OnOk, OnErr, [], drop, length};
+ghost use Rattle.std.specs.Prelude.{◌≡◌, ℕ, ◌+◌, ◌-◌, ◌||◌, ◌==◌, nat_le, if◌then◌else◌, ◌^◌, ◌<◌, ◌≤◌, true, IsSome, IfOk, OnOk, OnErr, [], take, drop, length};
+ghost use Rattle.std.specs.List.{list_any};
 ghost use Rattle.std.specs.Map.{set_value};
 ghost use Rattle.std.specs.BTreeMap.{is_at};
 ghost use Rattle.std.specs.Ordering.{nat_cmp};
-ghost use Rattle.std.specs.VecDeque.{deque_len, deque_capacity};
-ghost use Rattle.drb_ids.specs.Ids.{no_ids, looked_up, live_at, minted, ended_with, MayStart, StartsWith};
-ghost use Rattle.drb_ids.specs.Standings.{with_all_live, with_all_ended, standing_at, live_of, kind_by, IsTied, are_minted};
+ghost use Rattle.drb_ids.specs.Ids.{settled, no_ids, looked_up, live_at, minted, ended_with, MayStart, StartsWith};
+ghost use Rattle.rinda_rules.specs.Space.{retained};
+ghost use Rattle.drb_ids.specs.Standings.{with_all_live, with_all_ended, standing_at, live_of, kind_by, revived, IsTied, are_minted};
 
 use crate::object::{LiveId, Looked, Standing};
 use rinda_rules::{Ended, Last, ObjectKind};
@@ -16,41 +17,43 @@ use std::marker::Model;
 const KEPT: usize = 4_096;
 
 /// The ids that were given out, from 1. Contracts see the next id, the live ids, which rise, and the last 4,096 that
-/// ended, in the order in which they ended.
+/// ended, in the order in which they ended: as the table stands, and as the turn under way has made it.
+///
+/// Ids are given out and end ahead of what stands. `commit` makes that stand, and `forget` takes it back.
 #[derive(Drop)]
 pub struct IdTable {
     given: u64,
     objects: BTreeMap<u64, Standing>,
     ended: VecDeque<Ended>,
+    fresh: bool,
+    more: usize,
 }
 
 impl Model for IdTable {
-    ghost use Rattle.std.specs.Prelude.{◌+◌};
-    ghost use Rattle.std.specs.VecDeque.{deque_capacity};
-    ghost use Rattle.drb_ids.specs.Ids.{Ids};
-    ghost use Rattle.drb_ids.specs.Standings.{live_of, IsTable};
+    ghost use Rattle.drb_ids.specs.Ids.{Ided};
+    ghost use Rattle.drb_ids.specs.Standings.{IsTable, stood, ahead_of};
 
-    ghost Value = { Ids };
+    ghost Value = { Ided };
 
     ghost view = { λ t. record {
-      next = t.given + 1;
-      live = live_of t.objects.entries;
-      ended = t.ended.items;
+      list = stood t.fresh t.more t.given t.objects.entries t.ended.items;
+      ahead = ahead_of t.given t.objects.entries t.ended.items;
     } };
 
-    ghost invariant = { λ t.
-        IsTable t.given t.objects.entries t.ended.items (deque_capacity t.ended) };
+    ghost invariant = { λ t. IsTable t.fresh t.more t.given t.objects.entries t.ended.items };
 }
 
 impl IdTable {
     /// No id was given out. Takes no memory.
     pub fn new(alloc: Global) -> IdTable
-        ensures { result ≡ no_ids }
+        ensures { result ≡ settled no_ids }
     {
         IdTable {
             given: 0,
             objects: BTreeMap::new(alloc),
             ended: VecDeque::new(alloc),
+            fresh: false,
+            more: 0,
         }
     }
 
@@ -66,7 +69,8 @@ impl IdTable {
         ended: &[Ended],
     ) -> Result<IdTable, AllocError>
         requires { MayStart next live.now ended.now }
-        ensures { IfOk result (λ t. StartsWith next live.now ended.now t) }
+        ensures starts { IfOk result (λ t. StartsWith next live.now ended.now t.list) }
+        ensures stands { IfOk result (λ t. t ≡ settled t.list) }
     {
         let objects = live_standings(alloc, live)?;
         let objects = ended_standings(objects, ended)?;
@@ -75,50 +79,86 @@ impl IdTable {
             given: next - 1,
             objects,
             ended: kept,
+            fresh: false,
+            more: 0,
         })
     }
 
-    /// Gives the next id to an object of that kind, and takes the memory that its `end` will want.
+    /// Gives the next id to an object of that kind. A turn gives out one id at most.
     ///
     /// Fewer than 2^64 - 1 ids may have been given out.
     /// Errors: only want of memory; all is then as before.
     pub fn mint(&mut self, kind: ObjectKind) -> Result<u64, AllocError>
-        requires { self.old.next < 2 ^ 64 }
-        ensures id { IfOk result (λ id. id ≡ self.old.next) }
-        ensures minted { OnOk result (self.new ≡ minted kind self.old) }
+        requires room { self.old.ahead.next < 2 ^ 64 }
+        requires once { self.old.list.next ≡ self.old.ahead.next }
+        ensures id { IfOk result (λ id. id ≡ self.old.ahead.next) }
+        ensures minted { OnOk result (self.new.ahead ≡ minted kind self.old.ahead) }
+        ensures list { self.new.list ≡ self.old.list }
         ensures kept { OnErr result (self.new ≡ self.old) }
     {
-        self.ended.reserve(KEPT - self.ended.len())?;
         let id = self.given + 1;
         match self.objects.insert(id, Standing::Live(kind)) {
             Ok(_) => {
                 self.given = id;
+                self.fresh = true;
                 Ok(id)
             }
             Err(_) => Err(AllocError),
         }
     }
 
-    /// What is known of that id.
+    /// What is known of that id, ahead.
     pub fn look(&self, id: u64) -> Looked
-        ensures { result ≡ looked_up self.now id }
+        ensures { result ≡ looked_up self.now.ahead id }
     {
         match standing_of(&self.objects, id) {
             Some(Standing::Live(kind)) => Looked::Live(kind),
-            Some(Standing::Ended(kind, last)) => Looked::Ended(kind, last),
+            Some(Standing::Ended(kind, last)) => {
+                if is_over(&self.ended, id) {
+                    Looked::Recycled
+                } else {
+                    Looked::Ended(kind, last)
+                }
+            }
             None => unknown(self.given, id),
         }
     }
 
-    /// The object with that id, which is live, ends so. Takes no memory.
-    pub fn end(&mut self, id: u64, last: Last)
-        requires { IsSome (live_at self.old id) }
-        ensures { self.new ≡ ended_with id last self.old }
+    /// The object with that id ends so; where none that is live ahead has it, nothing changes.
+    ///
+    /// Errors: only want of memory; all is then as before.
+    pub fn end(&mut self, id: u64, last: Last) -> Result<(), AllocError>
+        ensures ended { OnOk result (self.new.ahead ≡ ended_with id last self.old.ahead) }
+        ensures list { self.new.list ≡ self.old.list }
+        ensures kept { OnErr result (self.new ≡ self.old) }
     {
         if let Some(kind) = live_kind(&self.objects, id) {
-            forget_oldest(&mut self.objects, &mut self.ended);
+            self.ended.push_back(Ended { id, kind, last })?;
             set(&mut self.objects, id, Standing::Ended(kind, last));
-            self.ended.push_back_reserved(Ended { id, kind, last });
+            self.more += 1;
+        }
+        Ok(())
+    }
+
+    /// What is ahead stands. Takes no memory.
+    pub fn commit(&mut self)
+        ensures { self.new ≡ settled self.old.ahead }
+    {
+        forget_oldest(&mut self.objects, &mut self.ended);
+        self.fresh = false;
+        self.more = 0;
+    }
+
+    /// What is ahead of what stands is taken back. Takes no memory.
+    pub fn forget(&mut self)
+        ensures { self.new ≡ settled self.old.list }
+    {
+        revive(&mut self.objects, &mut self.ended, self.more);
+        self.more = 0;
+        if self.fresh {
+            self.objects.remove(&self.given);
+            self.given -= 1;
+            self.fresh = false;
         }
     }
 }
@@ -152,12 +192,11 @@ fn ended_standings(
     Ok(objects)
 }
 
-/// These, with room for as many as are kept.
+/// These, in the same order.
 fn kept_of(alloc: Global, ended: &[Ended]) -> Result<VecDeque<Ended>, AllocError>
-    ensures items { IfOk result (λ kept. kept.items ≡ ended.now) }
-    ensures room { IfOk result (λ kept. 4096 ≤ deque_capacity kept) }
+    ensures { IfOk result (λ kept. kept.items ≡ ended.now) }
 {
-    let mut kept = VecDeque::with_capacity(alloc, KEPT)?;
+    let mut kept = VecDeque::new(alloc);
     for row in ended {
         kept.push_back(*row)?;
     }
@@ -181,6 +220,18 @@ fn live_kind(objects: &BTreeMap<u64, Standing>, id: u64) -> Option<ObjectKind>
     }
 }
 
+/// The id is of one that ended before the last so many that are known.
+fn is_over(ended: &VecDeque<Ended>, id: u64) -> bool
+    ensures { result ≡
+        list_any (λ e. e.id == id) (take (length ended.now.items - 4096) ended.now.items) }
+{
+    let len = ended.len();
+    if len <= KEPT {
+        return false;
+    }
+    ended.iter().take(len - KEPT).any(|e| e.id == id)
+}
+
 /// What is known of an id that names nothing, where so many were given out.
 fn unknown(given: u64, id: u64) -> Looked
     ensures { result ≡ (if id == 0 || nat_le (given + 1) id then Looked.Never
@@ -193,21 +244,59 @@ fn unknown(given: u64, id: u64) -> Looked
     }
 }
 
-/// Makes room for one more among the last that ended: of as many as are kept the oldest is forgotten.
+/// Of those that ended the oldest are forgotten, as many as there are more than are kept.
 fn forget_oldest(objects: &mut BTreeMap<u64, Standing>, ended: &mut VecDeque<Ended>)
     requires tied { IsTied objects.old.entries ended.old.items }
-    requires few { length ended.old.items ≤ 4096 }
     ensures tied { IsTied objects.new.entries ended.new.items }
     ensures live { live_of objects.new.entries ≡ live_of objects.old.entries }
     ensures minted { (given : ℕ) → are_minted given objects.old.entries ≡ true →
         are_minted given objects.new.entries ≡ true }
-    ensures ended { ended.new.items ≡ drop (length ended.old.items - 4095) ended.old.items }
-    ensures capacity { deque_capacity ended.new ≡ deque_capacity ended.old }
+    ensures ended { ended.new.items ≡ retained ended.old.items }
 {
-    if ended.len() == KEPT {
-        if let Some(oldest) = ended.pop_front() {
-            objects.remove(&oldest.id);
-        }
+    let len = ended.len();
+    for _ in KEPT..len {
+        forget_first(objects, ended);
+    }
+}
+
+/// The one that ended first is forgotten.
+fn forget_first(objects: &mut BTreeMap<u64, Standing>, ended: &mut VecDeque<Ended>)
+    requires tied { IsTied objects.old.entries ended.old.items }
+    ensures tied { IsTied objects.new.entries ended.new.items }
+    ensures live { live_of objects.new.entries ≡ live_of objects.old.entries }
+    ensures minted { (given : ℕ) → are_minted given objects.old.entries ≡ true →
+        are_minted given objects.new.entries ≡ true }
+    ensures ended { ended.new.items ≡ drop 1 ended.old.items }
+{
+    if let Some(oldest) = ended.pop_front() {
+        objects.remove(&oldest.id);
+    }
+}
+
+/// So many that ended last are live again.
+fn revive(objects: &mut BTreeMap<u64, Standing>, ended: &mut VecDeque<Ended>, more: usize)
+    requires tied { IsTied objects.old.entries ended.old.items }
+    requires since { more ≤ length ended.old.items }
+    ensures tied { IsTied objects.new.entries ended.new.items }
+    ensures objects { objects.new.entries
+        ≡ revived (drop (length ended.old.items - more) ended.old.items) objects.old.entries }
+    ensures ended { ended.new.items ≡ take (length ended.old.items - more) ended.old.items }
+{
+    for _ in 0..more {
+        revive_last(objects, ended);
+    }
+}
+
+/// The one that ended last is live again.
+fn revive_last(objects: &mut BTreeMap<u64, Standing>, ended: &mut VecDeque<Ended>)
+    requires tied { IsTied objects.old.entries ended.old.items }
+    ensures tied { IsTied objects.new.entries ended.new.items }
+    ensures objects { objects.new.entries
+        ≡ revived (drop (length ended.old.items - 1) ended.old.items) objects.old.entries }
+    ensures ended { ended.new.items ≡ take (length ended.old.items - 1) ended.old.items }
+{
+    if let Some(last) = ended.pop_back() {
+        set(objects, last.id, Standing::Live(last.kind));
     }
 }
 

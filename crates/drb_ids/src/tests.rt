@@ -10,7 +10,12 @@ fn an_id_is_live_and_then_has_ended(rt: HostRuntime) -> Result<(), Fail> {
     let mut table = IdTable::new(rt.alloc());
     assert_eq!(rt; table.mint(ObjectKind::Entry)?, 1);
     assert_eq!(rt; table.look(1), Looked::Live(ObjectKind::Entry));
-    table.end(1, Last::Taken);
+    table.commit();
+    table.end(1, Last::Taken)?;
+    table.forget();
+    assert_eq!(rt; table.look(1), Looked::Live(ObjectKind::Entry));
+    table.end(1, Last::Taken)?;
+    table.commit();
     assert_eq!(rt;
         table.look(1),
         Looked::Ended(ObjectKind::Entry, Last::Taken)

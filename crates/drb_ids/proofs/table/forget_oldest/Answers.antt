@@ -1,16 +1,21 @@
-use Rattle.std.proofs.Common.{arith}
-use Rattle.drb_ids.proofs.StandingLists.{live_of-remove_entry, are_minted-remove_entry}
-use Rattle.drb_ids.proofs.TableLemmas.{forgotten, oldest-stands}
+use Rattle.std.proofs.Common.{◌≡◌, ◌∙◌, ℕ, ◌-◌, List, ap, drop, length, arith}
+use Rattle.rinda_rules.specs.declared.plain.Ended.{Ended}
+use Rattle.drb_ids.proofs.Reviving.{drop-one-more}
 use Rattle.drb_ids.proofs.table.forget_oldest.Goals as goal
 
-pub returns-in-Some-clause-tied : goal.returns-in-Some-clause-tied
-returns-in-Some-clause-tied c = rw c.remove.ensures.entries (forgotten _ c.in-Some.oldest _ (rw c.in-Some.ensures.items at c.requires.tied))
+pub loop-preserved : goal.loop-preserved
+loop-preserved c =
+    let f = c.forget_first.ensures in
+    let i = c.loop.invariant in (
+      i.0,
+      omega (arith, i.0, c.loop-test.true),
+      f.ended ∙ ap (λ (z : List Ended). drop 1 z) i.2 ∙ drop-one-more c.loop.counter c.args.ended.now.items c.loop.auto.counter,
+      f.tied,
+      f.live ∙ i.4,
+      λ given h. f.minted given (i.5 given h),
+    )
 
-pub returns-in-Some-clause-live : goal.returns-in-Some-clause-live
-returns-in-Some-clause-live c = rw c.remove.ensures.entries (live_of-remove_entry c.in-Some.oldest.id c.args.objects.now.entries _ _ (oldest-stands c.args.objects.now.entries c.in-Some.oldest c.pop_front.new.self.items (rw c.in-Some.ensures.items at c.requires.tied)))
-
-pub returns-in-Some-clause-minted : goal.returns-in-Some-clause-minted
-returns-in-Some-clause-minted c given h = rw c.remove.ensures.entries (are_minted-remove_entry given c.in-Some.oldest.id c.args.objects.now.entries h)
-
-pub returns-else-len-eq-KEPT-clause-ended : goal.returns-else-len-eq-KEPT-clause-ended
-returns-else-len-eq-KEPT-clause-ended c = grind (arith, c.requires.few)
+pub returns-clause-ended : goal.returns-clause-ended
+returns-clause-ended c =
+    let n : c.loop.counter - 4096 ≡ length c.args.ended.now.items - 4096 = omega (arith, c.loop.auto.counter, c.loop.auto.counter-end, c.loop-test.false, c.loop.invariant.0, c.loop.invariant.1) in
+    c.loop.invariant.2 ∙ ap (λ (n : ℕ). drop n c.args.ended.now.items) n

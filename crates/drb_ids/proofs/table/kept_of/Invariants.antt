@@ -1,7 +1,6 @@
-use Rattle.std.proofs.Common.{◌≡◌, ◌≤◌, take}
-use Rattle.std.specs.VecDeque.{deque_capacity}
+use Rattle.std.proofs.Common.{◌≡◌, take}
 use Rattle.drb_ids.proofs.table.kept_of.Given as goal
 
--- the first ones are kept so far, and there is room for the rest
+-- the first ones are kept so far
 abbrev pub invariant-loop-row : goal.invariant-loop-row
-invariant-loop-row l = (l.kept.items ≡ take l.row-index l.ended) × (4096 ≤ deque_capacity l.kept)
+invariant-loop-row l = l.kept.items ≡ take l.row-index l.ended

@@ -1,20 +1,21 @@
 use Rattle.std.proofs.Common.{arith}
-use Rattle.drb_ids.proofs.TableLemmas.{room_at}
-use Rattle.drb_ids.proofs.Starting.{all_of, started-tied, started-minted, started-live}
+use Rattle.drb_ids.proofs.Starting.{started-tied, started-minted, started-live}
+use Rattle.drb_ids.proofs.Reviving.{drop-all, take-all}
 use Rattle.drb_ids.proofs.table.IdTable.start.Goals as goal
 
 pub invariant_of-result : goal.invariant_of-result
 invariant_of-result c =
-    rw (c.in_ok-objects-2.ensures, c.in_ok-objects.ensures, c.in_ok-kept.ensures.items) (record {
+    rw (c.in_ok-objects-2.ensures, c.in_ok-objects.ensures, c.in_ok-kept.ensures) (record {
       standings = started-tied c.args.next c.args.live.now c.args.ended.now c.requires;
       minted = started-minted c.args.next c.args.live.now c.args.ended.now c.requires;
+      since = omega arith;
       few = c.requires.few;
-      room = room_at (all_of c.args.live.now c.args.ended.now) _ c.in_ok-kept.ensures.room;
+      last = λ e. absurd cc;
     })
 
-pub returns : goal.returns
-returns c = record {
+pub returns-clause-starts : goal.returns-clause-starts
+returns-clause-starts c = rw (c.in_ok-objects-2.ensures, c.in_ok-objects.ensures, c.in_ok-kept.ensures) (record {
   next_is = omega (arith, c.requires.first);
-  live_are = λ id. rw (c.in_ok-objects-2.ensures, c.in_ok-objects.ensures) (started-live id c.args.next c.args.live.now c.args.ended.now c.requires);
-  ended_are = c.in_ok-kept.ensures.items;
-}
+  live_are = λ id. rw (drop-all c.args.ended.now) (started-live id c.args.next c.args.live.now c.args.ended.now c.requires);
+  ended_are = take-all c.args.ended.now;
+})

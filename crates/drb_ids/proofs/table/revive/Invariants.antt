@@ -1,0 +1,10 @@
+use Rattle.std.proofs.Common.{◌≡◌, ◌-◌, take, drop, length}
+use Rattle.drb_ids.specs.Standings.{revived, IsTied}
+use Rattle.drb_ids.proofs.table.revive.Given as goal
+
+-- so many of the last ones are live again, and what is left is tied
+abbrev pub invariant-loop : goal.invariant-loop
+invariant-loop l =
+    (l.objects.entries ≡ revived (drop (length l.fn.ended.items - l.counter) l.fn.ended.items) l.fn.objects.entries)
+    × (l.ended.items ≡ take (length l.fn.ended.items - l.counter) l.fn.ended.items)
+    × IsTied l.objects.entries l.ended.items

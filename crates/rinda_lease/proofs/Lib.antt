@@ -1,0 +1,4 @@
+pub mod KeyLists
+pub mod Slots
+pub mod Dues
+pub mod Ties

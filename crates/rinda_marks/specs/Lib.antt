@@ -1,0 +1,4 @@
+pub mod Hashes
+pub mod Marks
+pub mod Opening
+pub mod Laws

@@ -1,0 +1,5 @@
+pub mod Listed
+pub mod Undone
+pub mod Gone
+pub mod Told
+pub mod Ended

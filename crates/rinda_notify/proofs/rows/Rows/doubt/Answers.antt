@@ -1,0 +1,18 @@
+use Rattle.std.proofs.Common.{◌∙◌, sym, refl, ap}
+use Rattle.std.specs.Option.{option_copied_mut}
+use Rattle.rinda_notify.specs.Notes.{doubted}
+use Rattle.rinda_notify.proofs.Listed.{Written, written, unwritten}
+use Rattle.rinda_notify.proofs.rows.Rows.doubt.Goals as goal
+use Rattle.rinda_notify.proofs.rows.Rows.doubt.Goals.{in-Some, in_default, Joined-get_mut}
+
+result : (c : Joined-get_mut) → Written c.args.id (doubted) c.self.inside.map.entries c.match-get_mut.self-inside.map.entries
+result c = elim c.match-get_mut.branch [
+  | in-Some w ↦ rw w.self-inside-is (written c.args.id (doubted) c.self.inside.map.entries _ w.in-Some.row.now (λ t. refl) c.self.invariant (sym c.get_mut.ensures.value ∙ ap option_copied_mut w.in-Some.is) ((c.get_mut.follows.holds (doubted w.in-Some.row.now)).0))
+  | in_default w ↦ rw w.self-inside-is (unwritten c.args.id (doubted) c.self.inside.map.entries _ c.self.invariant (sym c.get_mut.ensures.value ∙ ap option_copied_mut w.in_default.is) (ap (λ m. m.entries) c.get_mut.follows.holds-at-none))
+]
+
+pub invariant_of-self : goal.invariant_of-self
+invariant_of-self c = (result c).table
+
+pub returns : goal.returns
+returns c = rw (← c.self.view_is) (result c).values

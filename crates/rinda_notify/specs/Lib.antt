@@ -1,0 +1,5 @@
+pub mod Notes
+pub mod Chains
+pub mod Undoing
+pub mod Tables
+pub mod Laws

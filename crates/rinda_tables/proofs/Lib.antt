@@ -1,0 +1,14 @@
+pub mod Gone
+pub mod Backs
+pub mod Asked
+pub mod Stages
+pub mod Holding
+pub mod HoldingTuples
+pub mod HoldingRequests
+pub mod HoldingNotifiers
+pub mod HoldingSame
+pub mod HoldingNoted
+pub mod HoldingMinted
+pub mod AgingRows
+pub mod AgingAll
+pub mod AgingOn

@@ -1,0 +1,22 @@
+use Rattle.std.proofs.Common.{◌∙◌, refl, sym, ap}
+use Rattle.std.proofs.lemmas.Result.{on_ok_weaker}
+use Rattle.rinda_rules.specs.declared.plain.Entry.{Entry}
+use Rattle.rinda_rules.specs.Rows.{row_of, changed}
+use Rattle.rinda_rules.specs.Phases.{held_by}
+use Rattle.rinda_tables.specs.Deadlines.{ahead_at}
+use Rattle.rinda_tables.specs.Holds.{Held}
+use Rattle.rinda_tables.specs.Tabled.{ahead_of}
+use Rattle.rinda_tables.proofs.HoldingTuples.{holds-with-tuple}
+use Rattle.rinda_tables.proofs.HoldingSame.{holds-same}
+use Rattle.rinda_tables.proofs.tables.Tables.hold.Goals as goal
+
+pub returns-clause-becomes : goal.returns-clause-becomes
+returns-clause-becomes c = on_ok_weaker c.stand.result
+    (λ comes s e h there.
+    let t = ahead_of c.args.self.now in
+    let at = ahead_at c.stand.new.self in
+    let row = ap (λ rows. row_of (λ (x : Entry). x.id) c.args.id rows) (sym h.tuples) ∙ sym c.in-Some.ensures in
+    let new : Held = record t { tuples = changed (λ x. x.id) c.args.id (held_by c.args.request) t.tuples; stages = at } in
+    holds-same _ new _ (holds-with-tuple s t c.args.id (held_by c.args.request) c.in-Some.row.now at (λ x. refl) h row comes.ahead)
+    refl refl refl c.in_ok-hold.ensures.ahead refl refl (λ q. refl))
+    c.stand.ensures.stands

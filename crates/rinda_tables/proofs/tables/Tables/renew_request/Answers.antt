@@ -1,0 +1,25 @@
+use Rattle.std.proofs.Common.{◌∙◌, refl, sym, ap}
+use Rattle.std.specs.Prelude.{◌==◌, if◌then◌else◌}
+use Rattle.rinda_rules.specs.declared.object.Doubt.TheVariants.{No}
+use Rattle.rinda_tables.specs.Holds.{stage_by}
+use Rattle.std.proofs.lemmas.Result.{on_ok_weaker}
+use Rattle.rinda_rules.specs.declared.plain.Request.{Request}
+use Rattle.rinda_rules.specs.Rows.{row_of, changed}
+use Rattle.rinda_rules.specs.Cases.{renewed_request}
+use Rattle.rinda_tables.specs.Deadlines.{ahead_at}
+use Rattle.rinda_tables.specs.Holds.{Held}
+use Rattle.rinda_tables.specs.Tabled.{ahead_of}
+use Rattle.rinda_tables.proofs.HoldingRequests.{holds-with-request}
+use Rattle.rinda_tables.proofs.HoldingSame.{holds-same}
+use Rattle.rinda_tables.proofs.tables.Tables.renew_request.Goals as goal
+
+pub returns-clause-becomes : goal.returns-clause-becomes
+returns-clause-becomes c = on_ok_weaker c.stand.result
+    (λ comes s e h there.
+    let t = ahead_of c.args.self.now in
+    let at = ahead_at c.stand.new.self in
+    let row = ap (λ rows. row_of (λ (x : Request). x.id) c.args.id rows) (sym h.requests) ∙ sym c.in-Some.ensures in
+    let new : Held = record t { requests = changed (λ x. x.id) c.args.id (renewed_request c.args.deadline c.args.renewer) t.requests; stages = at } in
+    holds-same _ new _ (holds-with-request s t c.args.id (renewed_request c.args.deadline c.args.renewer) c.in-Some.row.now at (λ x. refl) h row (λ q. comes.ahead q ∙ ap (λ b. if q == c.args.id then stage_by No b c.args.deadline else t.stages q) c.parks-parked.ensures))
+    refl refl refl refl c.in_ok-renew.ensures.ahead refl (λ q. refl))
+    c.stand.ensures.stands

@@ -1,0 +1,14 @@
+use Rattle.rinda_bag.specs.Changes.{asked}
+use Rattle.std.proofs.Common.{ap}
+use Rattle.rinda_tables.proofs.Gone.{left-changed}
+use Rattle.rinda_tables.proofs.Backs.{changes-ask, keeps-changed, tupled-changed}
+use Rattle.rinda_tables.proofs.tuples.Tuples.ask.Goals as goal
+
+pub invariant_of-self-2 : goal.invariant_of-self-2
+invariant_of-self-2 c = rw (c.ask.ensures, c.in_ok-note.ensures.noted) (tupled-changed c.args.id (asked) c.self.inside.steps.items _ c.self.inside.gone.items c.self.inside.bag (changes-ask) c.self.invariant)
+
+pub returns-clause-ahead : goal.returns-clause-ahead
+returns-clause-ahead c = rw (← c.self.view_is, c.ask.ensures) (left-changed (λ t. t.id) c.self.inside.gone.items c.args.id (asked) c.self.inside.bag (changes-ask).id)
+
+pub returns-clause-same : goal.returns-clause-same
+returns-clause-same c = rw (c.ask.ensures, c.in_ok-note.ensures.noted) (keeps-changed c.args.id (asked) c.self.inside.steps.items c.self.inside.bag _ (changes-ask) c.self.invariant.rise c.args.self.now (ap (λ t. t.list) c.self.view_is) (ap (λ t. t.added) c.self.view_is))

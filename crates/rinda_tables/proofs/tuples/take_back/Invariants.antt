@@ -1,0 +1,10 @@
+use Rattle.std.proofs.Common.{◌≡◌}
+use Rattle.rinda_tables.specs.Undoing.{undone}
+use Rattle.rinda_tables.proofs.tuples.take_back.Given as goal
+
+-- taking back those that are left makes what taking back all makes
+abbrev pub invariant-loop-step : goal.invariant-loop-step
+invariant-loop-step l = undone l.steps.items l.bag ≡ undone l.fn.steps.items l.fn.bag
+
+abbrev pub decreases-loop-step : goal.decreases-loop-step
+decreases-loop-step l = goal.left-loop-step l

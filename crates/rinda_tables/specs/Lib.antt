@@ -1,0 +1,6 @@
+pub mod Undoing
+pub mod Asking
+pub mod Deadlines
+pub mod Holds
+pub mod Tabled
+pub mod Dues

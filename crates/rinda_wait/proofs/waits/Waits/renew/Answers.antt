@@ -1,0 +1,8 @@
+use Rattle.std.proofs.Common.{refl}
+use Rattle.rinda_rules.specs.Cases.{renewed_request}
+use Rattle.rinda_wait.specs.Probes.{place_in}
+use Rattle.rinda_wait.proofs.Indexed.{indexed-same}
+use Rattle.rinda_wait.proofs.waits.Waits.renew.Goals as goal
+
+pub invariant_of-self : goal.invariant_of-self
+invariant_of-self c = rw c.lease.ensures.list (indexed-same (place_in c.self.inside.secret) c.self.inside.table c.self.inside.keys.keys c.args.id (renewed_request c.args.deadline c.args.renewer) c.self.invariant (λ t. refl) (λ t. refl))

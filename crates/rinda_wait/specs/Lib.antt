@@ -1,0 +1,4 @@
+pub mod Waiting
+pub mod Table
+pub mod Places
+pub mod Probes
