@@ -1,0 +1,3 @@
+pub mod Judgings
+pub mod Cutting
+pub mod FirstLines
