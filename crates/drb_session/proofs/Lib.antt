@@ -1,0 +1,5 @@
+pub mod Small
+pub mod Calling
+pub mod Joining
+pub mod Wholes
+pub mod Completing

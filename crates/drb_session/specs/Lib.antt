@@ -1,0 +1,10 @@
+pub mod Passes
+pub mod Clocks
+pub mod Peers
+pub mod Calls
+pub mod Glances
+pub mod Runs
+pub mod Replies
+pub mod Transcripts
+pub mod Session
+pub mod Parts
