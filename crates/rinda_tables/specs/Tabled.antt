@@ -1,5 +1,6 @@
 -- What tables hold as they stand, and as they are ahead.
-use Rattle.std.specs.Prelude.{◌≡◌, ℕ, true, false, [], ◌∷◌, ◌++◌, Option, Some, None}
+use Rattle.std.specs.Prelude.{◌≡◌, ℕ, true, false, [], ◌∷◌, ◌++◌, Option, Some, None, length}
+use Rattle.drb_tree.specs.declared.Tree.{Tree}
 use Rattle.drb_tree.specs.declared.Remote.{Remote}
 use Rattle.rinda_tuple.specs.declared.tuple.Tuple.{Tuple}
 use Rattle.rinda_tuple.specs.declared.tuple.Template.{Template}
@@ -12,6 +13,7 @@ use Rattle.rinda_tables.specs.Undoing.{below}
 use Rattle.rinda_rules.specs.declared.plain.Entry.{Entry}
 use Rattle.rinda_rules.specs.declared.plain.Request.{Request}
 use Rattle.rinda_rules.specs.declared.plain.Notifier.{Notifier}
+use Rattle.rinda_rules.specs.declared.plain.Hearing.TheVariants.{Running}
 use Rattle.rinda_rules.specs.Space.{Plain, tuple_at, request_at, notifier_at}
 use Rattle.rinda_tables.specs.Deadlines.{ahead_at, list_at}
 use Rattle.rinda_tables.specs.Holds.{Held, Holds}
@@ -116,6 +118,27 @@ new_asking id caller kind pattern deadline renewer = record {
 abbrev pub with_new_request : ℕ → Kind → Template → Option ℕ → Option Remote → Plain → Plain
 with_new_request caller kind pattern deadline renewer s = record (minted s) {
   requests = s.requests ++ new_asking s.next caller kind pattern deadline renewer ∷ [];
+}
+
+-- a new notifier with that lease, which hears what is raised from then on
+abbrev pub new_hearer : ℕ → ℕ → Tree → Template → Option ℕ → Option Remote → Notifier
+new_hearer id since event pattern deadline renewer = record {
+  id = id;
+  event = event;
+  pattern = pattern;
+  deadline = deadline;
+  renewer = renewer;
+  doubt = No;
+  state = Running;
+  since = since;
+  popped = 0;
+}
+
+-- the space with a new notifier
+abbrev pub with_new_notifier : Tree → Template → Option ℕ → Option Remote → Plain → Plain
+with_new_notifier event pattern deadline renewer s = record (minted s) {
+  notifiers = s.notifiers
+      ++ new_hearer s.next (length s.events) event pattern deadline renewer ∷ [];
 }
 
 -- Where they held a space ahead, they hold what became of it, with a new object of that id.

@@ -5,20 +5,21 @@ ghost use Rattle.rinda_rules.specs.declared.plain.Notifier.{Notifier};
 ghost use Rattle.rinda_rules.specs.declared.plain.Hearing.TheVariants as hearing;
 ghost use Rattle.rinda_rules.specs.Space.{Plain, notifier_at, is_parked, is_free as is_free_spec};
 ghost use Rattle.rinda_rules.specs.Phases.{advanced, tuple_ended, request_ended, with_tuple, with_request, request_in, with_notifier, held_by, doubt_tuple, doubt_request, doubt_notifier, close_after, happening_of as happening_of_spec};
-ghost use Rattle.rinda_rules.specs.Cases.{renewed_tuple, renewed_request, renewed_notifier};
-ghost use Rattle.rinda_bag.specs.Changes.{let_go, marked};
-ghost use Rattle.rinda_wait.specs.Waiting.{canceled};
+ghost use Rattle.rinda_rules.specs.Cases.{renewed_tuple, renewed_request, renewed_notifier, asked_doubt as asked_doubt_spec};
+ghost use Rattle.rinda_bag.specs.Changes.{let_go, marked, asked as asked_tuple};
+ghost use Rattle.rinda_wait.specs.Waiting.{canceled, asked as asked_request};
 ghost use Rattle.rinda_tables.specs.Holds.{Holds};
-ghost use Rattle.rinda_tables.specs.Tabled.{ahead_of, list_of, Stays, Settles, Becomes, BecomesBy, BecomesFor, BecomesOf, Fresh, Mints, with_new_tuple, with_new_request};
+ghost use Rattle.rinda_tables.specs.Tabled.{ahead_of, list_of, Stays, Settles, Becomes, BecomesBy, BecomesFor, BecomesOf, Fresh, Mints, with_new_tuple, with_new_request, with_new_notifier};
 
 use crate::deadlines::Deadlines;
 use crate::requests::Requests;
 use crate::tuples::Tuples;
 use drb_ids::IdTable;
 use drb_tree::Remote;
-use rinda_notify::Notes;
+use drb_value::Value;
+use rinda_notify::{Note, Notes, Queue};
 use rinda_rules::plain::{Entry, Happening, Request};
-use rinda_rules::{Doubt, Kind, Last, ObjectKind, RequestState};
+use rinda_rules::{Doubt, Kind, Last, NoteState, ObjectKind, RequestState};
 use rinda_tuple::{Template, Tuple};
 use std::alloc::{AllocError, Global};
 
@@ -150,6 +151,55 @@ impl Tables {
         Ok(id)
     }
 
+    /// Adds a notifier that hears what is raised from then on, and answers its id. A turn adds one row at most, and fewer
+    /// than 2^64 - 1 ids may have been given out.
+    ///
+    /// Errors: only want of memory; the notifier is dropped.
+    pub fn add_note(
+        &mut self,
+        alloc: Global,
+        event: Value,
+        pattern: Template,
+        deadline: Option<u64>,
+        renewer: Option<Remote>,
+    ) -> Result<u64, AllocError>
+        requires room { self.old.ids.ahead.next < 2 ^ 64 }
+        requires fresh { Fresh self.old }
+        ensures added { IfOk result (λ id.
+            Mints (with_new_notifier event pattern deadline renewer) id self.old self.new) }
+        ensures stays { Stays self.old self.new }
+    {
+        let id = match self.ids.mint(ObjectKind::Notifier) {
+            Ok(id) => id,
+            Err(refused) => {
+                drop(event);
+                drop(pattern);
+                drop(renewer);
+                return Err(refused);
+            }
+        };
+        let note = Note {
+            id,
+            event,
+            pattern,
+            deadline,
+            renewer,
+            doubt: Doubt::No,
+            state: NoteState::Running,
+            queue: Queue::new(alloc),
+        };
+        match self.notes.start(note) {
+            Ok(()) => {
+                self.deadlines.set(id, deadline)?;
+                Ok(id)
+            }
+            Err(refused) => {
+                drop(refused);
+                Err(AllocError)
+            }
+        }
+    }
+
     /// A tuple ends: it is raised as taken or deleted.
     pub fn end_tuple(&mut self, alloc: Global, last: Last, id: u64) -> Result<(), AllocError>
         ensures becomes { OnOk result (BecomesBy id (tuple_ended last) self.old self.new) }
@@ -235,6 +285,22 @@ impl Tables {
         self.deadlines.doubt(id)
     }
 
+    /// The tuple's renewer is being asked, where it was to be.
+    pub fn ask_tuple(&mut self, alloc: Global, id: u64) -> Result<(), AllocError>
+        ensures becomes { OnOk result
+            (BecomesBy id (λ e. with_tuple id asked_tuple) self.old self.new) }
+        ensures stays { Stays self.old self.new }
+    {
+        let Some(row) = self.tuples.row(id) else {
+            return Ok(());
+        };
+        let doubt = asked_doubt(row.doubt);
+        let free = is_free(row);
+        let deadline = row.deadline;
+        self.tuples.ask(alloc, id)?;
+        self.deadlines.stand(id, doubt, free, deadline)
+    }
+
     /// A request ends.
     pub fn end_request(&mut self, last: Last, id: u64) -> Result<(), AllocError>
         ensures becomes { OnOk result
@@ -301,6 +367,22 @@ impl Tables {
     {
         self.requests.doubt(id)?;
         self.deadlines.doubt(id)
+    }
+
+    /// The request's renewer is being asked, where it was to be.
+    pub fn ask_request(&mut self, id: u64) -> Result<(), AllocError>
+        ensures becomes { OnOk result
+            (BecomesFor id (λ r. with_request id asked_request) self.old self.new) }
+        ensures stays { Stays self.old self.new }
+    {
+        let Some(row) = self.requests.row(id) else {
+            return Ok(());
+        };
+        let doubt = asked_doubt(row.doubt);
+        let parked = parks(&row.state);
+        let deadline = row.deadline;
+        self.requests.ask(id)?;
+        self.deadlines.stand(id, doubt, parked, deadline)
     }
 
     /// A running notifier is closed after all that was raised.
@@ -374,5 +456,15 @@ pub(crate) fn parks(state: &RequestState) -> bool
     match state {
         RequestState::Parked => true,
         _ => false,
+    }
+}
+
+fn asked_doubt(doubt: Doubt) -> Doubt
+    ensures { result ≡ asked_doubt_spec doubt }
+{
+    match doubt {
+        Doubt::No => Doubt::No,
+        Doubt::Waiting => Doubt::Asked,
+        Doubt::Asked => Doubt::Asked,
     }
 }

@@ -1,5 +1,5 @@
-use Rattle.std.proofs.Common.{◌≡◌, ◌∙◌, refl, ap}
-use Rattle.rinda_tables.specs.Tabled.{ahead_of, list_of}
+use Rattle.std.proofs.Common.{refl, ap}
+use Rattle.rinda_tables.specs.Tabled.{ahead_of}
 use Rattle.rinda_tables.proofs.HoldingSame.{holds-same}
 use Rattle.rinda_tables.proofs.tables.Tables.commit.Goals as goal
 
