@@ -123,3 +123,12 @@ are_distinct-last (x ∷ ended) r new e = grind (arith, nat_tests, row_of-last x
 
 pub drop-one : (ended : List Ended) (r : Ended) → length ended ≤ 4096 → drop (length (ended ++ r ∷ []) - 4096) (ended ++ r ∷ []) ≡ drop (length ended - 4095) ended ++ r ∷ []
 drop-one ended r few = grind (arith, length-append ended (r ∷ []), drop-append-le (length ended - 4095) ended (r ∷ []))
+
+-- one fewer where the id stands
+pub length-remove_entry : (id : ℕ) (es : List (ℕ × Standing)) (v : Standing) → standing_at id es ≡ Some v → length (remove_entry (is_at (nat_cmp id)) es) + 1 ≡ length es
+length-remove_entry id [] v there = cc
+length-remove_entry id (x ∷ es) v there = grind (arith, nat_tests, length-remove_entry id es v)
+
+pub remove_entry-no-more : (id : ℕ) (es : List (ℕ × Standing)) → length (remove_entry (is_at (nat_cmp id)) es) ≤ length es
+remove_entry-no-more id [] = omega arith
+remove_entry-no-more id (x ∷ es) = grind (arith, nat_tests, remove_entry-no-more id es)

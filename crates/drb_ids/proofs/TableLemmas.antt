@@ -1,5 +1,5 @@
 -- What each change of a table leaves.
-use Rattle.std.proofs.Common.{take, zero, suc, ◌≡◌, ◌∙◌, ℕ, ◌+◌, ◌-◌, Bool, true, false, List, [], ◌∷◌, ◌++◌, Option, Some, None, length, refl, sym, ap, arith}
+use Rattle.std.proofs.Common.{length-append, take, zero, suc, ◌≡◌, ◌∙◌, ℕ, ◌+◌, ◌-◌, ◌<◌, Bool, true, false, List, [], ◌∷◌, ◌++◌, Option, Some, None, Result, Ok, Err, is_ok, IsOk, length, refl, sym, ap, arith}
 use Rattle.std.specs.Prelude.{◌==◌, if◌then◌else◌}
 use Rattle.std.specs.Map.{remove_entry, set_value}
 use Rattle.std.specs.BTreeMap.{is_at, insert_entry}
@@ -12,8 +12,8 @@ use Rattle.rinda_rules.specs.Rows.{row_of, rising}
 use Rattle.drb_ids.specs.declared.object.LiveId.{LiveId}
 use Rattle.drb_ids.specs.declared.object.Standing.{Standing}
 use Rattle.drb_ids.specs.declared.object.Standing.TheVariants.{Live, Ended as Over}
-use Rattle.drb_ids.specs.Standings.{live_of, standing_at, live_by, kind_by, ended_by, are_minted, IsTied, IsTable}
-use Rattle.drb_ids.proofs.StandingLists.{row_of-live_of, insert_entry-last, live_of-last, ended_by-last, are_minted-last, rising-last, standing_at-set_value, rising-set_value, standing_at-remove_entry, rising-remove_entry, row_of-last, are_distinct-last}
+use Rattle.drb_ids.specs.Standings.{live_of, standing_at, live_by, kind_by, ended_by, are_minted, IsTied, HasRoom, IsTable}
+use Rattle.drb_ids.proofs.StandingLists.{row_of-live_of, insert_entry-last, live_of-last, ended_by-last, are_minted-last, rising-last, standing_at-set_value, rising-set_value, standing_at-remove_entry, rising-remove_entry, length-remove_entry, remove_entry-no-more, row_of-last, are_distinct-last}
 
 -- Minting.
 
@@ -43,7 +43,13 @@ table-minted fresh more given es ended kind h = rw (insert_entry-last given es (
 pub live_of-minted : (given : ℕ) (es : List (ℕ × Standing)) (kind : ObjectKind) → are_minted given es ≡ true → live_of (insert_entry nat_cmp es (given + 1) (Live kind)) ≡ live_of es ++ record { id = given + 1; kind = kind } ∷ []
 live_of-minted given es kind h = rw (insert_entry-last given es (Live kind) h) (live_of-last es (given + 1) kind)
 
+pub room-minted : (given : ℕ) (es : List (ℕ × Standing)) (v : Standing) (room : ℕ) → are_minted given es ≡ true → HasRoom 1 es room → HasRoom 0 (insert_entry nat_cmp es (given + 1) v) room
+room-minted given es v room h some = rw (insert_entry-last given es v h) (omega (arith, some, length-append es ((given + 1, v) ∷ [])))
+
 -- Forgetting.
+
+pub room-removed : (id : ℕ) (es : List (ℕ × Standing)) (room : ℕ) → HasRoom 0 es room → HasRoom 0 (remove_entry (is_at (nat_cmp id)) es) room
+room-removed id es room some = omega (arith, some, remove_entry-no-more id es)
 
 -- who is among those that ended stands so
 over_by : (id : ℕ) (s : Option Standing) (r : Ended) → ended_by id s ≡ Some r → s ≡ Some (Over r.kind r.last)
@@ -96,6 +102,28 @@ ended-tied id es ended kind last h there =
           ∙ sym (ap (λ (s : Option Standing). ended_by q s) (standing_at-set_value q id es (Live kind) (Over kind last) there));
       once = are_distinct-last ended r new h.once;
     }
+
+-- who is live did not end
+apart : (id : ℕ) (es : List (ℕ × Standing)) (o : Ended) (kind : ObjectKind) (b : Bool) → (id == o.id) ≡ b → standing_at id es ≡ Some (Live kind) → standing_at o.id es ≡ Some (Over o.kind o.last) → b ≡ false
+apart id es o kind true e live over = grind (arith, nat_tests)
+apart id es o kind false e live over = refl
+
+-- fewer have ended than stand, where one is live
+pub fewer-ended : (id : ℕ) (es : List (ℕ × Standing)) (ended : List Ended) (kind : ObjectKind) → IsTied es ended → standing_at id es ≡ Some (Live kind) → length ended < length es
+fewer-ended id [] [] kind h there = cc
+fewer-ended id (x ∷ es) [] kind h there = omega arith
+fewer-ended id es (o ∷ rest) kind h there =
+    let over : standing_at o.id es ≡ Some (Over o.kind o.last) = oldest-stands es o rest h in
+    let still : standing_at id (remove_entry (is_at (nat_cmp o.id)) es) ≡ Some (Live kind) =
+    standing_at-remove_entry id o.id es h.rising
+    ∙ ap (λ (b : Bool). if b then None else standing_at id es) (apart id es o kind (id == o.id) refl there over)
+    ∙ there in
+    omega (arith, fewer-ended id (remove_entry (is_at (nat_cmp o.id)) es) rest kind (forgotten es o rest h) still, length-remove_entry o.id es (Over o.kind o.last) over)
+
+-- what was pushed is there, where that went well
+pub pushed : {A B : Type 0} (r : Result A B) (more ended new : List Ended) → new ≡ (if is_ok r then more else ended) → IsOk r → new ≡ more
+pushed (Ok a) more ended new e ok = e
+pushed (Err b) more ended new e ok = absurd cc
 
 -- What an end leaves.
 

@@ -88,6 +88,10 @@ pub record IsTied (es : List (ℕ × Standing)) (ended : List Ended) : Type 0 wh
   pub tied : (id : ℕ) → row_of (λ e. e.id) id ended ≡ ended_by id (standing_at id es)
   pub once : are_distinct (λ e. e.id) ended ≡ true
 
+-- in that much room each id here will have ended, and so many more
+abbrev pub HasRoom : ℕ → List (ℕ × Standing) → ℕ → Type 0
+HasRoom more es room = length es + more ≤ room
+
 -- A whole table. So many of the last that ended did so since it last stood, and before them were no more than are kept.
 pub record IsTable (fresh : Bool) (more given : ℕ) (es : List (ℕ × Standing))
     (ended : List Ended) : Type 0 where

@@ -8,8 +8,6 @@
 
 mod object;
 mod table;
-#[cfg(test)]
-mod tests;
 
 pub use object::{LiveId, Looked};
 pub use table::IdTable;

@@ -1,11 +1,12 @@
-ghost use Rattle.std.specs.Prelude.{◌≡◌, ℕ, ◌+◌, ◌-◌, ◌||◌, ◌==◌, nat_le, if◌then◌else◌, ◌^◌, ◌<◌, ◌≤◌, true, IsSome, IfOk, OnOk, OnErr, [], take, drop, length};
+ghost use Rattle.std.specs.Prelude.{◌≡◌, ℕ, ◌+◌, ◌-◌, ◌||◌, ◌==◌, nat_le, if◌then◌else◌, ◌^◌, ◌<◌, ◌≤◌, true, IsSome, IfOk, OnOk, OnErr, [], ◌∷◌, ◌++◌, take, drop, length};
 ghost use Rattle.std.specs.List.{list_any};
 ghost use Rattle.std.specs.Map.{set_value};
 ghost use Rattle.std.specs.BTreeMap.{is_at};
+ghost use Rattle.std.specs.VecDeque.{deque_capacity};
 ghost use Rattle.std.specs.Ordering.{nat_cmp};
 ghost use Rattle.drb_ids.specs.Ids.{settled, no_ids, looked_up, live_at, minted, ended_with, MayStart, StartsWith};
 ghost use Rattle.rinda_rules.specs.Space.{retained};
-ghost use Rattle.drb_ids.specs.Standings.{with_all_live, with_all_ended, standing_at, live_of, kind_by, revived, IsTied, are_minted};
+ghost use Rattle.drb_ids.specs.Standings.{with_all_live, with_all_ended, standing_at, live_of, kind_by, revived, IsTied, HasRoom, are_minted};
 
 use crate::object::{LiveId, Looked, Standing};
 use rinda_rules::{Ended, Last, ObjectKind};
@@ -19,7 +20,8 @@ const KEPT: usize = 4_096;
 /// The ids that were given out, from 1. Contracts see the next id, the live ids, which rise, and the last 4,096 that
 /// ended, in the order in which they ended: as the table stands, and as the turn under way has made it.
 ///
-/// Ids are given out and end ahead of what stands. `commit` makes that stand, and `forget` takes it back.
+/// Ids are given out and end ahead of what stands. `commit` makes that stand, and `forget` takes it back. Only giving
+/// one out takes memory, what its end will want included.
 #[derive(Drop)]
 pub struct IdTable {
     given: u64,
@@ -31,7 +33,8 @@ pub struct IdTable {
 
 impl Model for IdTable {
     ghost use Rattle.drb_ids.specs.Ids.{Ided};
-    ghost use Rattle.drb_ids.specs.Standings.{IsTable, stood, ahead_of};
+    ghost use Rattle.drb_ids.specs.Standings.{IsTable, HasRoom, stood, ahead_of};
+    ghost use Rattle.std.specs.VecDeque.{deque_capacity};
 
     ghost Value = { Ided };
 
@@ -40,7 +43,9 @@ impl Model for IdTable {
       ahead = ahead_of t.given t.objects.entries t.ended.items;
     } };
 
-    ghost invariant = { λ t. IsTable t.fresh t.more t.given t.objects.entries t.ended.items };
+    ghost invariant = { λ t.
+        IsTable t.fresh t.more t.given t.objects.entries t.ended.items
+        × HasRoom 0 t.objects.entries (deque_capacity t.ended) };
 }
 
 impl IdTable {
@@ -74,7 +79,7 @@ impl IdTable {
     {
         let objects = live_standings(alloc, live)?;
         let objects = ended_standings(objects, ended)?;
-        let kept = kept_of(alloc, ended)?;
+        let kept = kept_of(alloc, ended, objects.len())?;
         Ok(IdTable {
             given: next - 1,
             objects,
@@ -86,6 +91,7 @@ impl IdTable {
 
     /// Gives the next id to an object of that kind. A turn gives out one id at most.
     ///
+    /// It takes the memory that a later `end` of the id will want.
     /// Fewer than 2^64 - 1 ids may have been given out.
     /// Errors: only want of memory; all is then as before.
     pub fn mint(&mut self, kind: ObjectKind) -> Result<u64, AllocError>
@@ -96,6 +102,7 @@ impl IdTable {
         ensures list { self.new.list ≡ self.old.list }
         ensures kept { OnErr result (self.new ≡ self.old) }
     {
+        make_room(&self.objects, &mut self.ended)?;
         let id = self.given + 1;
         match self.objects.insert(id, Standing::Live(kind)) {
             Ok(_) => {
@@ -105,6 +112,13 @@ impl IdTable {
             }
             Err(_) => Err(AllocError),
         }
+    }
+
+    /// How many ids were given out, ahead: the next one is one more.
+    pub fn given(&self) -> u64
+        ensures { result + 1 ≡ self.now.ahead.next }
+    {
+        self.given
     }
 
     /// What is known of that id, ahead.
@@ -124,20 +138,16 @@ impl IdTable {
         }
     }
 
-    /// The object with that id ends so; where none that is live ahead has it, nothing changes.
-    ///
-    /// Errors: only want of memory; all is then as before.
-    pub fn end(&mut self, id: u64, last: Last) -> Result<(), AllocError>
-        ensures ended { OnOk result (self.new.ahead ≡ ended_with id last self.old.ahead) }
+    /// The object with that id ends so; where none that is live ahead has it, nothing changes. Takes no memory.
+    pub fn end(&mut self, id: u64, last: Last)
+        ensures ended { self.new.ahead ≡ ended_with id last self.old.ahead }
         ensures list { self.new.list ≡ self.old.list }
-        ensures kept { OnErr result (self.new ≡ self.old) }
     {
         if let Some(kind) = live_kind(&self.objects, id) {
-            self.ended.push_back(Ended { id, kind, last })?;
+            add_last(&mut self.ended, Ended { id, kind, last });
             set(&mut self.objects, id, Standing::Ended(kind, last));
             self.more += 1;
         }
-        Ok(())
     }
 
     /// What is ahead stands. Takes no memory.
@@ -192,15 +202,43 @@ fn ended_standings(
     Ok(objects)
 }
 
-/// These, in the same order.
-fn kept_of(alloc: Global, ended: &[Ended]) -> Result<VecDeque<Ended>, AllocError>
-    ensures { IfOk result (λ kept. kept.items ≡ ended.now) }
+/// These, in the same order, with room for so many.
+fn kept_of(alloc: Global, ended: &[Ended], room: usize) -> Result<VecDeque<Ended>, AllocError>
+    ensures items { IfOk result (λ kept. kept.items ≡ ended.now) }
+    ensures room { IfOk result (λ kept. room ≤ deque_capacity kept) }
 {
-    let mut kept = VecDeque::new(alloc);
+    let mut kept = VecDeque::with_capacity(alloc, room)?;
     for row in ended {
         kept.push_back(*row)?;
     }
     Ok(kept)
+}
+
+/// Makes room in which all of these will have ended, and one more. It makes twice as much as there was, so that it
+/// seldom has to.
+fn make_room(
+    objects: &BTreeMap<u64, Standing>,
+    ended: &mut VecDeque<Ended>,
+) -> Result<(), AllocError>
+    ensures ended { ended.new.items ≡ ended.old.items }
+    ensures wider { deque_capacity ended.old ≤ deque_capacity ended.new }
+    ensures room { OnOk result (HasRoom 1 objects.now.entries (deque_capacity ended.new)) }
+{
+    let ids = objects.len();
+    if ids < ended.capacity() {
+        return Ok(());
+    }
+    ended.reserve(2 * ids + 1)
+}
+
+/// One more has ended. Takes no memory.
+fn add_last(ended: &mut VecDeque<Ended>, row: Ended)
+    requires room { length ended.old.items < deque_capacity ended.old }
+    ensures ended { ended.new.items ≡ ended.old.items ++ row ∷ [] }
+    ensures capacity { deque_capacity ended.old ≤ deque_capacity ended.new }
+{
+    // There is room, so this never fails.
+    let _pushed = ended.push_back(row);
 }
 
 /// What that id names, if it names anything.
@@ -247,7 +285,9 @@ fn unknown(given: u64, id: u64) -> Looked
 /// Of those that ended the oldest are forgotten, as many as there are more than are kept.
 fn forget_oldest(objects: &mut BTreeMap<u64, Standing>, ended: &mut VecDeque<Ended>)
     requires tied { IsTied objects.old.entries ended.old.items }
+    requires room { HasRoom 0 objects.old.entries (deque_capacity ended.old) }
     ensures tied { IsTied objects.new.entries ended.new.items }
+    ensures room { HasRoom 0 objects.new.entries (deque_capacity ended.new) }
     ensures live { live_of objects.new.entries ≡ live_of objects.old.entries }
     ensures minted { (given : ℕ) → are_minted given objects.old.entries ≡ true →
         are_minted given objects.new.entries ≡ true }
@@ -262,7 +302,9 @@ fn forget_oldest(objects: &mut BTreeMap<u64, Standing>, ended: &mut VecDeque<End
 /// The one that ended first is forgotten.
 fn forget_first(objects: &mut BTreeMap<u64, Standing>, ended: &mut VecDeque<Ended>)
     requires tied { IsTied objects.old.entries ended.old.items }
+    requires room { HasRoom 0 objects.old.entries (deque_capacity ended.old) }
     ensures tied { IsTied objects.new.entries ended.new.items }
+    ensures room { HasRoom 0 objects.new.entries (deque_capacity ended.new) }
     ensures live { live_of objects.new.entries ≡ live_of objects.old.entries }
     ensures minted { (given : ℕ) → are_minted given objects.old.entries ≡ true →
         are_minted given objects.new.entries ≡ true }
@@ -276,8 +318,10 @@ fn forget_first(objects: &mut BTreeMap<u64, Standing>, ended: &mut VecDeque<Ende
 /// So many that ended last are live again.
 fn revive(objects: &mut BTreeMap<u64, Standing>, ended: &mut VecDeque<Ended>, more: usize)
     requires tied { IsTied objects.old.entries ended.old.items }
+    requires room { HasRoom 0 objects.old.entries (deque_capacity ended.old) }
     requires since { more ≤ length ended.old.items }
     ensures tied { IsTied objects.new.entries ended.new.items }
+    ensures room { HasRoom 0 objects.new.entries (deque_capacity ended.new) }
     ensures objects { objects.new.entries
         ≡ revived (drop (length ended.old.items - more) ended.old.items) objects.old.entries }
     ensures ended { ended.new.items ≡ take (length ended.old.items - more) ended.old.items }
@@ -290,7 +334,9 @@ fn revive(objects: &mut BTreeMap<u64, Standing>, ended: &mut VecDeque<Ended>, mo
 /// The one that ended last is live again.
 fn revive_last(objects: &mut BTreeMap<u64, Standing>, ended: &mut VecDeque<Ended>)
     requires tied { IsTied objects.old.entries ended.old.items }
+    requires room { HasRoom 0 objects.old.entries (deque_capacity ended.old) }
     ensures tied { IsTied objects.new.entries ended.new.items }
+    ensures room { HasRoom 0 objects.new.entries (deque_capacity ended.new) }
     ensures objects { objects.new.entries
         ≡ revived (drop (length ended.old.items - 1) ended.old.items) objects.old.entries }
     ensures ended { ended.new.items ≡ take (length ended.old.items - 1) ended.old.items }

@@ -12,8 +12,8 @@ use Rattle.std.specs.Ordering.{nat_cmp}
 use Rattle.std.proofs.lemmas.Bool.Decides.{nat_tests}
 use Rattle.rinda_lease.specs.declared.stage.Stage.{Stage}
 use Rattle.rinda_lease.specs.declared.stage.Stage.TheVariants.{Still, Timed, Waiting, Asked}
-use Rattle.rinda_lease.specs.Stages.{is_in, is_due, is_waiting, stage_at, AreDue, IsNextAsk}
-use Rattle.rinda_lease.specs.Orders.{key_of, is_slot, IsOrder, are_small, timed_slot, doubted_slot, due_ids, is_still}
+use Rattle.rinda_lease.specs.Stages.{is_in, is_due, is_timed, is_waiting, stage_at, AreDue, AreTimed, IsNextAsk}
+use Rattle.rinda_lease.specs.Orders.{key_of, is_slot, IsOrder, are_small, timed_slot, doubted_slot, due_ids, ids_of, is_still}
 use Rattle.rinda_lease.proofs.KeyLists.{rise, is_in-above, is_in-at, first_is_least, all_of_get}
 use Rattle.rinda_lease.proofs.Slots.{slot_of_key, id_of_key, key_is, stands}
 
@@ -253,3 +253,38 @@ front_is_asked k entries (x ∷ ks) small h l at high = first_is_asked x entries
 pub no_front_asked : (entries : List (ℕ × Stage)) (keys : List ℕ) → are_small entries ≡ true → IsOrder doubted_slot (stage_at entries) keys → (0 < length keys → ⊥) → IsNextAsk entries None
 no_front_asked entries [] small h l = none_doubted entries small h
 no_front_asked entries (x ∷ ks) small h l = absurd (l (omega arith))
+
+-- All that have a deadline.
+
+id_there : (i K : ℕ) (keys : List ℕ) → K % 18446744073709551616 ≡ i → is_in K keys ≡ true → is_in i (ids_of keys) ≡ true
+id_there i K [] e h = h
+id_there i K (k ∷ ks) e h = by_test (k == K) refl (id_there i K ks e)
+  where
+    by_test : (b : Bool) → (k == K) ≡ b → (is_in K ks ≡ true → is_in i (ids_of ks) ≡ true) → is_in i (k % 18446744073709551616 ∷ ids_of ks) ≡ true
+    by_test true same again =
+        let it : k ≡ K = grind (arith, nat_tests) in
+        let at : k % 18446744073709551616 ≡ i = ap (λ x. x % 18446744073709551616) it ∙ e in
+        grind (arith, nat_tests)
+    by_test false other again =
+        let later : is_in i (ids_of ks) ≡ true = again (grind (arith, nat_tests)) in
+        grind (arith, nat_tests)
+
+id_not_there : (i : ℕ) (keys : List ℕ) → ((k : ℕ) → is_in k keys ≡ true → k % 18446744073709551616 ≡ i → ⊥) → is_in i (ids_of keys) ≡ false
+id_not_there i [] h = refl
+id_not_there i (k ∷ ks) h =
+    let apart : k % 18446744073709551616 ≡ i → ⊥ = h k (grind (arith, nat_tests)) in
+    grind (arith, nat_tests, apart, id_not_there i ks (λ j a. h j (grind (arith, nat_tests, a))))
+
+pub are_timed : (entries : List (ℕ × Stage)) (keys : List ℕ) → are_small entries ≡ true → IsOrder timed_slot (stage_at entries) keys → AreTimed entries (ids_of keys)
+are_timed entries keys small h i = by_stage (stage_at entries i) refl
+  where
+    slot : (k : ℕ) → is_in k keys ≡ true → k % 18446744073709551616 ≡ i → (s : Stage) → stage_at entries i ≡ s → is_slot (k / 18446744073709551616) (timed_slot s) ≡ true
+    slot k a e s is = ap (λ (s : Stage). is_slot (k / 18446744073709551616) (timed_slot s)) (sym is ∙ ap (stage_at entries) (sym e)) ∙ sym (h.are k) ∙ a
+
+    by_stage : (s : Stage) → stage_at entries i ≡ s → is_in i (ids_of keys) ≡ is_timed s
+    by_stage Still is = id_not_there i keys (λ k a e. let no : false ≡ true = slot k a e Still is in cc)
+    by_stage Waiting is = id_not_there i keys (λ k a e. let no : false ≡ true = slot k a e Waiting is in cc)
+    by_stage Asked is = id_not_there i keys (λ k a e. let no : false ≡ true = slot k a e Asked is in cc)
+    by_stage (Timed d) is =
+        let l : i < 18446744073709551616 = small_id entries i small (ap is_still is) in
+        id_there i (key_of d i) keys (id_of_key d i l) (stands timed_slot (stage_at entries) i d keys l (ap timed_slot is) h)

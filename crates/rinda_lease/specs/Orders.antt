@@ -81,3 +81,8 @@ due_ids now [] = []
 due_ids now (k ∷ ks) =
     if nat_lt now (k / 18446744073709551616) then []
     else k % 18446744073709551616 ∷ due_ids now ks
+
+-- the ids of the keys
+abbrev pub ids_of : List ℕ → List ℕ
+ids_of [] = []
+ids_of (k ∷ ks) = k % 18446744073709551616 ∷ ids_of ks

@@ -60,6 +60,10 @@ pub record AreDue (leases : List (ℕ × Stage)) (now : ℕ) (ids : List ℕ) : 
   pub rise : rising (λ id. id) ids ≡ true
   pub due : (id : ℕ) → is_in id ids ≡ is_due now (stage_at leases id)
 
+-- the ids that have a deadline, all of them and no others
+abbrev pub AreTimed : List (ℕ × Stage) → List ℕ → Type 0
+AreTimed leases ids = (id : ℕ) → is_in id ids ≡ is_timed (stage_at leases id)
+
 -- the least id that waits, or that none does
 abbrev pub IsNextAsk : List (ℕ × Stage) → Option ℕ → Type 0
 IsNextAsk leases None = (id : ℕ) → is_waiting (stage_at leases id) ≡ false

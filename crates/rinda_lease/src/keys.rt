@@ -2,7 +2,7 @@ ghost use Rattle.std.specs.Prelude.{◌≡◌, ℕ, ◌+◌, ◌<◌, ◌≤◌,
 ghost use Rattle.std.specs.VecDeque.{deque_len, deque_capacity};
 ghost use Rattle.rinda_rules.specs.Rows.{rising};
 ghost use Rattle.rinda_lease.specs.Stages.{is_in};
-ghost use Rattle.rinda_lease.specs.Orders.{key_of as key_of_spec, due_ids as due_ids_spec};
+ghost use Rattle.rinda_lease.specs.Orders.{key_of as key_of_spec, due_ids as due_ids_spec, ids_of as ids_of_spec};
 
 use std::alloc::{AllocError, Global};
 use std::collections::VecDeque;
@@ -60,6 +60,17 @@ pub(crate) fn due_ids(
         if now < (*key / IDS) as u64 {
             break;
         }
+        ids.push((*key % IDS) as u64)?;
+    }
+    Ok(ids)
+}
+
+/// The ids of the keys, in their order.
+pub(crate) fn ids_of(alloc: Global, keys: &VecDeque<u128>) -> Result<Vec<u64>, AllocError>
+    ensures { IfOk result (λ ids. ids.items ≡ ids_of_spec keys.now.items) }
+{
+    let mut ids = Vec::new(alloc);
+    for key in keys.iter() {
         ids.push((*key % IDS) as u64)?;
     }
     Ok(ids)

@@ -1,10 +1,10 @@
 ghost use Rattle.std.specs.Prelude.{◌≡◌, ℕ, ◌≤◌, true, false, [], OnOk, OnErr, IfOk};
 ghost use Rattle.std.specs.Bool.{OnTrue, OnFalse};
 ghost use Rattle.rinda_lease.specs.declared.stage.Stage.TheVariants.{Still, Waiting, Asked};
-ghost use Rattle.rinda_lease.specs.Stages.{stage_at, Becomes, timed, is_timed, is_waiting, is_asked, is_due, AreDue, IsNextAsk};
+ghost use Rattle.rinda_lease.specs.Stages.{stage_at, Becomes, timed, is_timed, is_waiting, is_asked, is_due, AreDue, AreTimed, IsNextAsk};
 ghost use Rattle.rinda_lease.specs.Orders.{is_still, IsTied};
 
-use crate::keys::{IDS, due_ids};
+use crate::keys::{IDS, due_ids, ids_of};
 use crate::orders::{Orders, enter, leave, make_room};
 use crate::stage::Stage;
 use std::alloc::{AllocError, Global};
@@ -93,6 +93,16 @@ impl Leases {
     {
         let mut ids = due_ids(alloc, &self.orders.timed, now)?;
         ids.sort_unstable();
+        Ok(ids)
+    }
+
+    /// The ids that have a deadline: all of them, by their deadlines.
+    ///
+    /// Errors: only want of memory.
+    pub fn timed(&self, alloc: Global) -> Result<Vec<u64>, AllocError>
+        ensures { IfOk result (λ ids. AreTimed self.now ids.items) }
+    {
+        let ids = ids_of(alloc, &self.orders.timed)?;
         Ok(ids)
     }
 

@@ -34,7 +34,7 @@ either-next s (HasEnded kind last) = refl
 either-next s IsRecycled = refl
 either-next s IsUnknown = refl
 
-aged-next : (n : ℕ) (s : Plain) → (aged_below n s).next ≡ s.next
+pub aged-next : (n : ℕ) (s : Plain) → (aged_below n s).next ≡ s.next
 aged-next zero s = refl
 aged-next (suc n) s = either-next (aged_below n s) (found (aged_below n s) n) ∙ aged-next n s
 

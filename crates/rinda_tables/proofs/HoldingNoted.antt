@@ -1,5 +1,5 @@
 -- What a change of a notifier leaves, by its fields.
-use Rattle.std.proofs.Common.{◌≡◌, ◌∙◌, ℕ, true, List, Option, Some, None, refl, sym, ap, subst, arith, false}
+use Rattle.std.proofs.Common.{◌≡◌, ◌∙◌, ℕ, Bool, true, List, Option, Some, None, refl, sym, ap, subst, arith, false}
 use Rattle.std.specs.Prelude.{◌==◌, length, if◌then◌else◌}
 use Rattle.drb_ids.specs.Ids.{ended_with}
 use Rattle.rinda_lease.specs.declared.stage.Stage.{Stage}
@@ -14,6 +14,8 @@ use Rattle.rinda_rules.specs.declared.plain.Entry.{Entry}
 use Rattle.rinda_rules.specs.declared.plain.Request.{Request}
 use Rattle.rinda_rules.specs.declared.plain.Notifier.{Notifier}
 use Rattle.rinda_rules.specs.declared.plain.Hearing.TheVariants as hearing
+use Rattle.rinda_rules.specs.declared.plain.Raised.{Raised}
+use Rattle.rinda_rules.specs.Cases.{asked_doubt}
 use Rattle.rinda_rules.specs.Rows.{numbered, rising}
 use Rattle.rinda_rules.specs.Space.{Plain, request_at, tuple_at, notifier_at, is_running}
 use Rattle.rinda_rules.specs.Phases.{with_notifier, close_after, notifier_ended}
@@ -78,3 +80,13 @@ ended-notifier s t b last e id h is there clock shut ids tuples requests notes s
 pub no-note : {P : Type 0} (o : Option Note) (n : Note) → o ≡ None → o ≡ Some n → P
 no-note None n a b = cc
 no-note (Some x) n a b = cc
+
+-- where a notifier stands once its renewer is being asked
+asked-there : (s : List Raised) (e : Notifier) (n : Note) (runs : Bool) → n ≡ note_of s e → runs ≡ is_running e.state → stage_by (asked_doubt n.doubt) runs n.deadline ≡ notifier_stage (record e { doubt = asked_doubt e.doubt })
+asked-there s e n runs is r = rw (is, r) refl
+
+same-note : (a b : Note) → Some a ≡ Some b → a ≡ b
+same-note a b e = cc
+
+pub asked-stage : (s : List Raised) (e : Notifier) (n : Note) (runs : Bool) → Some n ≡ Some (note_of s e) → runs ≡ is_running e.state → stage_by (asked_doubt n.doubt) runs n.deadline ≡ notifier_stage (record e { doubt = asked_doubt e.doubt })
+asked-stage s e n runs is r = asked-there s e n runs (same-note n (note_of s e) is) r

@@ -12,3 +12,5 @@ pub mod HoldingMinted
 pub mod AgingRows
 pub mod AgingAll
 pub mod AgingOn
+pub mod HoldingPopped
+pub mod HoldingShut

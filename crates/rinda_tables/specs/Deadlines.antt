@@ -1,6 +1,8 @@
 -- Which ids are due when, and whose renewers are to be asked: as it stands, and ahead.
-use Rattle.std.specs.Prelude.{◌≡◌, ℕ, Bool, true, not, ◌==◌, List, [], ◌∷◌, if◌then◌else◌}
+use Rattle.std.specs.Prelude.{◌≡◌, ℕ, Bool, true, false, not, ◌==◌, List, [], ◌∷◌, is_some, if◌then◌else◌}
 use Rattle.std.specs.List.{list_all}
+use Rattle.rinda_rules.specs.declared.plain.Entry.{Entry}
+use Rattle.rinda_rules.specs.Rows.{row_of}
 use Rattle.rinda_lease.specs.declared.stage.Stage.{Stage}
 use Rattle.rinda_lease.specs.declared.stage.Stage.TheVariants.{Still, Timed, Waiting, Asked}
 use Rattle.rinda_lease.specs.Stages.{stage_at}
@@ -51,3 +53,13 @@ are_lively steps = list_all (λ s. not (is_still s.stage)) steps
 pub record IsStaged (steps : List Step) (entries : List (ℕ × Stage)) : Type 0 where
   pub there : are_there steps entries ≡ true
   pub lively : are_lively steps ≡ true
+
+-- there is a tuple with that id
+abbrev pub tuple_in : ℕ → List Entry → Bool
+tuple_in id rows = is_some (row_of (λ t. t.id) id rows)
+
+-- the stage of an id that is among those whose leases end, unless it is a tuple's
+abbrev pub rested : Bool → Bool → Stage → Stage
+rested true true stage = stage
+rested true false stage = Still
+rested false tuple stage = stage

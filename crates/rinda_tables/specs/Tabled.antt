@@ -6,8 +6,18 @@ use Rattle.rinda_tuple.specs.declared.tuple.Tuple.{Tuple}
 use Rattle.rinda_tuple.specs.declared.tuple.Template.{Template}
 use Rattle.rinda_rules.specs.declared.event.Kind.{Kind}
 use Rattle.rinda_rules.specs.declared.object.Doubt.TheVariants.{No}
+use Rattle.rinda_rules.specs.declared.object.Last.{Last}
+use Rattle.rinda_rules.specs.declared.object.Last.TheVariants as last
+use Rattle.rinda_rules.specs.declared.object.ObjectKind.TheVariants as object
+use Rattle.rinda_rules.specs.declared.out.Out.{Out}
+use Rattle.rinda_rules.specs.declared.out.Out.TheVariants as out
+use Rattle.rinda_rules.specs.declared.row.NoteState.{NoteState}
+use Rattle.rinda_rules.specs.declared.row.NoteState.TheVariants as state
 use Rattle.rinda_rules.specs.declared.row.RequestState.TheVariants.{Reserved}
-use Rattle.rinda_rules.specs.Cases.{minted}
+use Rattle.rinda_rules.specs.Cases.{minted, asked_doubt, pop_notifier}
+use Rattle.rinda_rules.specs.Phases.{ended}
+use Rattle.rinda_notify.specs.declared.note.Popped.{Popped}
+use Rattle.rinda_notify.specs.declared.note.Popped.TheVariants as popped
 use Rattle.rinda_notify.specs.Tables.{below as notes_below}
 use Rattle.rinda_tables.specs.Undoing.{below}
 use Rattle.rinda_rules.specs.declared.plain.Entry.{Entry}
@@ -150,3 +160,38 @@ Mints f id old new = (s : Plain) → Holds s (ahead_of old) →
 pub record Settles (was : Held) (new : Tables) : Type 0 where
   pub ahead : (s : Plain) → Holds s was → Holds s (ahead_of new)
   pub list : (s : Plain) → Holds s was → Holds s (list_of new)
+
+-- no row was added
+pub record AddsNone (old new : Tables) : Type 0 where
+  pub tuple : new.tuples.added ≡ old.tuples.added
+  pub request : new.requests.added ≡ old.requests.added
+
+-- none was added since what stands
+pub record Unadded (t : Tables) : Type 0 where
+  pub tuple : t.tuples.added ≡ false
+  pub request : t.requests.added ≡ false
+
+-- its renewer is being asked, if it waited for that
+abbrev pub asked_notifier : Notifier → Notifier
+asked_notifier n = record n { doubt = asked_doubt n.doubt }
+
+-- the space once a tuple got an id that has expired by then
+abbrev pub with_passed_tuple : Plain → Plain
+with_passed_tuple s = ended object.Entry s.next last.Expired (minted s)
+
+-- how a notifier in that state has ended
+abbrev pub last_in : NoteState → Last
+last_in state.Running = last.Done
+last_in (state.Closed l) = l
+
+-- the answer to a pop that gave that, where that is the answer of one who runs and has nothing to give
+abbrev pub pop_answer : Out → Popped → Out
+pop_answer nothing (popped.Event event) = out.Event event
+pop_answer nothing popped.Closed = out.Closed
+pop_answer nothing popped.Empty = nothing
+
+-- What was given is what the rules give, and the tables hold what they leave.
+abbrev pub Pops : ℕ → Popped → Tables → Tables → Type 0
+Pops id given old new = (s : Plain) (n : Notifier) (nothing : Out) → Holds s (ahead_of old) →
+    notifier_at s id ≡ Some n → let o = pop_notifier s nothing n
+    in (pop_answer nothing given ≡ o.out) × Holds o.after (ahead_of new)

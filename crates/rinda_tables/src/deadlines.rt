@@ -3,7 +3,7 @@
 ghost use Rattle.std.specs.Prelude.{◌≡◌, ℕ, true, false, [], OnOk, OnErr, IfOk};
 ghost use Rattle.std.specs.Bool.{OnTrue, OnFalse};
 ghost use Rattle.rinda_lease.specs.declared.stage.Stage.TheVariants.{Still, Waiting};
-ghost use Rattle.rinda_lease.specs.Stages.{stage_at, timed, is_due, AreDue, IsNextAsk};
+ghost use Rattle.rinda_lease.specs.Stages.{stage_at, timed, is_due, AreDue, AreTimed, IsNextAsk};
 ghost use Rattle.rinda_lease.specs.Orders.{is_still};
 ghost use Rattle.rinda_tables.specs.Holds.{stage_by};
 ghost use Rattle.rinda_tables.specs.Deadlines.{quiet, undone, ahead_at, list_at, are_there, are_lively, Comes, Stands};
@@ -60,6 +60,15 @@ impl Deadlines {
         ensures { IfOk result (λ ids. AreDue self.now.entries now ids.items) }
     {
         self.leases.due(alloc, now)
+    }
+
+    /// The ids that have a deadline, ahead: all of them.
+    ///
+    /// Errors: only want of memory.
+    pub fn timed(&self, alloc: Global) -> Result<Vec<u64>, AllocError>
+        ensures { IfOk result (λ ids. AreTimed self.now.entries ids.items) }
+    {
+        self.leases.timed(alloc)
     }
 
     /// Whether any id's deadline is at most `now`, in milliseconds, ahead.

@@ -1,15 +1,18 @@
 //! All tables of a space, and the small steps of which a turn is made.
 
-ghost use Rattle.std.specs.Prelude.{◌≡◌, ◌<◌, ◌^◌, Some, OnOk, IfOk, length, max};
+ghost use Rattle.std.specs.Prelude.{◌≡◌, ℕ, ◌==◌, ◌<◌, ◌^◌, Some, OnOk, IfOk, length, max};
 ghost use Rattle.rinda_rules.specs.declared.plain.Notifier.{Notifier};
 ghost use Rattle.rinda_rules.specs.declared.plain.Hearing.TheVariants as hearing;
-ghost use Rattle.rinda_rules.specs.Space.{Plain, notifier_at, is_parked, is_free as is_free_spec};
-ghost use Rattle.rinda_rules.specs.Phases.{advanced, tuple_ended, request_ended, with_tuple, with_request, request_in, with_notifier, held_by, doubt_tuple, doubt_request, doubt_notifier, close_after, happening_of as happening_of_spec};
-ghost use Rattle.rinda_rules.specs.Cases.{renewed_tuple, renewed_request, renewed_notifier, asked_doubt as asked_doubt_spec};
+ghost use Rattle.rinda_rules.specs.Space.{Plain, notifier_at, opening, is_parked, is_free as is_free_spec};
+ghost use Rattle.rinda_rules.specs.Phases.{advanced, raised, tuple_ended, request_ended, with_tuple, with_request, request_in, with_notifier, held_by, doubt_tuple, doubt_request, doubt_notifier, close_after, happening_of as happening_of_spec};
+ghost use Rattle.rinda_rules.specs.Cases.{renewed_tuple, renewed_request, renewed_notifier, shut_down, asked_doubt as asked_doubt_spec};
 ghost use Rattle.rinda_bag.specs.Changes.{let_go, marked, asked as asked_tuple};
 ghost use Rattle.rinda_wait.specs.Waiting.{canceled, asked as asked_request};
 ghost use Rattle.rinda_tables.specs.Holds.{Holds};
-ghost use Rattle.rinda_tables.specs.Tabled.{ahead_of, list_of, Stays, Settles, Becomes, BecomesBy, BecomesFor, BecomesOf, Fresh, Mints, with_new_tuple, with_new_request, with_new_notifier};
+ghost use Rattle.rinda_tables.specs.Tabled.{ahead_of, list_of, Stays, Settles, Becomes, BecomesBy, BecomesFor, BecomesOf, Fresh, AddsNone, Unadded, Mints, Pops, with_new_tuple, with_new_request, with_new_notifier, with_passed_tuple, asked_notifier, last_in};
+ghost use Rattle.rinda_tables.specs.Deadlines.{ahead_at, list_at, rested, tuple_in};
+ghost use Rattle.rinda_lease.specs.Stages.{is_in};
+ghost use Rattle.rinda_rules.specs.declared.plain.Entry.{Entry};
 
 use crate::deadlines::Deadlines;
 use crate::requests::Requests;
@@ -17,7 +20,8 @@ use crate::tuples::Tuples;
 use drb_ids::IdTable;
 use drb_tree::Remote;
 use drb_value::Value;
-use rinda_notify::{Note, Notes, Queue};
+use rinda_marks::Secret;
+use rinda_notify::{Note, Notes, Popped, Queue};
 use rinda_rules::plain::{Entry, Happening, Request};
 use rinda_rules::{Doubt, Kind, Last, NoteState, ObjectKind, RequestState};
 use rinda_tuple::{Template, Tuple};
@@ -38,6 +42,27 @@ pub struct Tables {
 }
 
 impl Tables {
+    /// The tables of the space before the first turn. Takes no memory.
+    ///
+    /// Under the secret nobody can choose values that fall together in an index.
+    pub fn new(alloc: Global, secret: Secret) -> Tables
+        ensures ahead { Holds opening (ahead_of result) }
+        ensures list { Holds opening (list_of result) }
+        ensures unadded { Unadded result }
+    {
+        Tables {
+            clock: 0,
+            shut: false,
+            stood_at: 0,
+            stood_shut: false,
+            ids: IdTable::new(alloc),
+            tuples: Tuples::new(alloc, secret),
+            requests: Requests::new(alloc, secret),
+            notes: Notes::new(alloc),
+            deadlines: Deadlines::new(alloc),
+        }
+    }
+
     /// Time goes on to the reading, unless that is earlier.
     pub fn advance(&mut self, at: u64)
         ensures becomes { Becomes (λ s. advanced s at) self.old self.new }
@@ -48,7 +73,8 @@ impl Tables {
 
     /// What is ahead stands. Takes no memory.
     pub fn commit(&mut self)
-        ensures { Settles (ahead_of self.old) self.new }
+        ensures settles { Settles (ahead_of self.old) self.new }
+        ensures unadded { Unadded self.new }
     {
         self.stood_at = self.clock;
         self.stood_shut = self.shut;
@@ -61,7 +87,8 @@ impl Tables {
 
     /// What is ahead of what stands is taken back. Takes no memory.
     pub fn forget(&mut self)
-        ensures { Settles (list_of self.old) self.new }
+        ensures settles { Settles (list_of self.old) self.new }
+        ensures unadded { Unadded self.new }
     {
         self.clock = self.stood_at;
         self.shut = self.stood_shut;
@@ -204,6 +231,7 @@ impl Tables {
     pub fn end_tuple(&mut self, alloc: Global, last: Last, id: u64) -> Result<(), AllocError>
         ensures becomes { OnOk result (BecomesBy id (tuple_ended last) self.old self.new) }
         ensures stays { Stays self.old self.new }
+        ensures none_added { AddsNone self.old self.new }
     {
         let Some(row) = self.tuples.row(id) else {
             return Ok(());
@@ -211,7 +239,8 @@ impl Tables {
         self.notes.raise(alloc, happening_of(last), &row.value)?;
         self.tuples.take_out(alloc, id)?;
         self.deadlines.rest(id)?;
-        self.ids.end(id, last)
+        self.ids.end(id, last);
+        Ok(())
     }
 
     /// A request holds the tuple.
@@ -280,6 +309,7 @@ impl Tables {
         ensures becomes { OnOk result
             (BecomesBy id (λ e. with_tuple id doubt_tuple) self.old self.new) }
         ensures stays { Stays self.old self.new }
+        ensures none_added { AddsNone self.old self.new }
     {
         self.tuples.doubt(alloc, id)?;
         self.deadlines.doubt(id)
@@ -309,7 +339,8 @@ impl Tables {
     {
         self.requests.take_out(id)?;
         self.deadlines.rest(id)?;
-        self.ids.end(id, last)
+        self.ids.end(id, last);
+        Ok(())
     }
 
     /// The request is in that state.
@@ -317,6 +348,7 @@ impl Tables {
         ensures becomes { OnOk result
             (BecomesFor id (λ r. request_in id state) self.old self.new) }
         ensures stays { Stays self.old self.new }
+        ensures none_added { AddsNone self.old self.new }
     {
         let Some(row) = self.requests.row(id) else {
             drop(state);
@@ -364,6 +396,7 @@ impl Tables {
         ensures becomes { OnOk result
             (BecomesFor id (λ r. with_request id doubt_request) self.old self.new) }
         ensures stays { Stays self.old self.new }
+        ensures none_added { AddsNone self.old self.new }
     {
         self.requests.doubt(id)?;
         self.deadlines.doubt(id)
@@ -391,6 +424,7 @@ impl Tables {
             notifier_at s id ≡ Some n → n.state ≡ hearing.Running →
             Holds (with_notifier id (close_after last (length s.events)) s) (ahead_of self.new)) }
         ensures stays { Stays self.old self.new }
+        ensures none_added { AddsNone self.old self.new }
     {
         let Some(note) = self.notes.note(id) else {
             return Ok(());
@@ -419,11 +453,96 @@ impl Tables {
         self.deadlines.stand(id, Doubt::No, running, deadline)
     }
 
+    /// The notifier's renewer is being asked, where it was to be.
+    pub fn ask_note(&mut self, alloc: Global, id: u64) -> Result<(), AllocError>
+        ensures becomes { OnOk result
+            (BecomesOf id (λ n. with_notifier id asked_notifier) self.old self.new) }
+        ensures stays { Stays self.old self.new }
+    {
+        let Some(note) = self.notes.note(id) else {
+            return Ok(());
+        };
+        let doubt = asked_doubt(note.doubt);
+        let deadline = note.deadline;
+        let running = self.notes.is_running(id);
+        self.notes.ask(alloc, id)?;
+        self.deadlines.stand(id, doubt, running, deadline)
+    }
+
+    /// This happened to a tuple: the event comes to the queue of each notifier that runs and hears it.
+    ///
+    /// Errors: only want of memory.
+    /// Source: docs/SPACE.md, Queues.
+    pub fn raise(&mut self, alloc: Global, what: Happening, value: &Tuple) -> Result<(), AllocError>
+        ensures becomes { OnOk result ((t : Entry) → t.value ≡ value.now →
+            Becomes (raised what t) self.old self.new) }
+        ensures stays { Stays self.old self.new }
+    {
+        self.notes.raise(alloc, what, value)
+    }
+
+    /// Gives an id to a tuple whose time is over as it is written: it has expired. A turn gives out one id at most, and
+    /// fewer than 2^64 - 1 may have been given out.
+    ///
+    /// Errors: only want of memory.
+    pub fn pass_tuple(&mut self) -> Result<u64, AllocError>
+        requires room { self.old.ids.ahead.next < 2 ^ 64 }
+        requires fresh { Fresh self.old }
+        ensures passed { IfOk result (λ id. Mints with_passed_tuple id self.old self.new) }
+        ensures stays { Stays self.old self.new }
+    {
+        let id = self.ids.mint(ObjectKind::Entry)?;
+        self.ids.end(id, Last::Expired);
+        Ok(id)
+    }
+
+    /// Takes the next event off the queue of the notifier: `Empty` where it runs and its queue is empty, or there is
+    /// none; `Closed` where it was closed and its queue is empty; it has then ended as it was closed.
+    ///
+    /// Errors: only want of memory.
+    /// Source: docs/SPACE.md, Cases, Pop.
+    pub fn pop(&mut self, alloc: Global, id: u64) -> Result<Popped, AllocError>
+        ensures pops { IfOk result (λ popped. Pops id popped self.old self.new) }
+        ensures stays { Stays self.old self.new }
+    {
+        let last = match self.notes.note(id) {
+            Some(note) => last_of(note.state),
+            None => return Ok(Popped::Empty),
+        };
+        match self.notes.pop(alloc, id)? {
+            Popped::Event(event) => Ok(Popped::Event(event)),
+            Popped::Empty => Ok(Popped::Empty),
+            Popped::Closed => {
+                self.deadlines.rest(id)?;
+                self.ids.end(id, last);
+                Ok(Popped::Closed)
+            }
+        }
+    }
+
+    /// Each reserved request is marked, each parked one is answered Canceled, each running notifier is closed, and the
+    /// space is shut.
+    ///
+    /// Errors: only want of memory.
+    /// Source: docs/SPACE.md, Cases, Shut.
+    pub fn shut_down(&mut self, alloc: Global) -> Result<(), AllocError>
+        ensures becomes { OnOk result (Becomes shut_down self.old self.new) }
+        ensures stays { Stays self.old self.new }
+    {
+        self.requests.shut(alloc)?;
+        self.notes.shut(alloc)?;
+        let ids = self.deadlines.timed(alloc)?;
+        rest_each(&mut self.deadlines, &self.tuples, &ids)?;
+        self.shut = true;
+        Ok(())
+    }
+
     /// The notifier's renewer is to be asked.
     pub fn doubt_note(&mut self, alloc: Global, id: u64) -> Result<(), AllocError>
         ensures becomes { OnOk result
             (BecomesOf id (λ n. with_notifier id doubt_notifier) self.old self.new) }
         ensures stays { Stays self.old self.new }
+        ensures none_added { AddsNone self.old self.new }
     {
         self.notes.doubt(alloc, id)?;
         self.deadlines.doubt(id)
@@ -466,5 +585,38 @@ fn asked_doubt(doubt: Doubt) -> Doubt
         Doubt::No => Doubt::No,
         Doubt::Waiting => Doubt::Asked,
         Doubt::Asked => Doubt::Asked,
+    }
+}
+
+/// How a notifier in that state has ended.
+fn last_of(state: NoteState) -> Last
+    ensures { result ≡ last_in state }
+{
+    match state {
+        NoteState::Running => Last::Done,
+        NoteState::Closed(last) => last,
+    }
+}
+
+/// The leases of those of the ids that are no tuples' end.
+fn rest_each(deadlines: &mut Deadlines, tuples: &Tuples, ids: &[u64]) -> Result<(), AllocError>
+    ensures rests { OnOk result ((q : ℕ) → ahead_at deadlines.new q
+        ≡ rested (is_in q ids.now) (tuple_in q tuples.now.ahead) (ahead_at deadlines.old q)) }
+    ensures stays { (q : ℕ) → list_at deadlines.new q ≡ list_at deadlines.old q }
+{
+    for id in ids {
+        rest_one(deadlines, tuples, *id)?;
+    }
+    Ok(())
+}
+
+fn rest_one(deadlines: &mut Deadlines, tuples: &Tuples, id: u64) -> Result<(), AllocError>
+    ensures rests { OnOk result ((q : ℕ) → ahead_at deadlines.new q
+        ≡ rested (q == id) (tuple_in q tuples.now.ahead) (ahead_at deadlines.old q)) }
+    ensures stays { (q : ℕ) → list_at deadlines.new q ≡ list_at deadlines.old q }
+{
+    match tuples.row(id) {
+        Some(_) => Ok(()),
+        None => deadlines.rest(id),
     }
 }

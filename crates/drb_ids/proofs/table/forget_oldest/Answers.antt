@@ -11,8 +11,9 @@ loop-preserved c =
       omega (arith, i.0, c.loop-test.true),
       f.ended ∙ ap (λ (z : List Ended). drop 1 z) i.2 ∙ drop-one-more c.loop.counter c.args.ended.now.items c.loop.auto.counter,
       f.tied,
-      f.live ∙ i.4,
-      λ given h. f.minted given (i.5 given h),
+      f.room,
+      f.live ∙ i.5,
+      λ given h. f.minted given (i.6 given h),
     )
 
 pub returns-clause-ended : goal.returns-clause-ended

@@ -9,4 +9,5 @@ loop-preserved c =
       (rw (i.1, i.0) at r.objects) ∙ revived-more c.loop.counter c.args.more c.args.ended.now.items c.args.objects.now.entries c.loop-test.true c.requires.since,
       (rw i.1 at r.ended) ∙ taken-more c.loop.counter c.args.more c.args.ended.now.items c.loop-test.true c.requires.since,
       r.tied,
+      r.room,
     )

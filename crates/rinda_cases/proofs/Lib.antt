@@ -1,0 +1,13 @@
+pub mod Named
+pub mod Naming
+pub mod Nexts
+pub mod Nothings
+pub mod NewObjects
+pub mod RequestsFound
+pub mod RequestsOwn
+pub mod RequestsServed
+pub mod Asking
+pub mod Changing
+pub mod Flagged
+pub mod Values
+pub mod Unchanged

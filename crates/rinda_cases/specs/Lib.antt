@@ -1,0 +1,4 @@
+pub mod Makes
+pub mod Requests
+pub mod Flagged
+pub mod Reads
