@@ -17,7 +17,7 @@ use Rattle.rinda_rules.specs.Phases.{aged, aged_below, age_found, age_tuple, age
 use Rattle.rinda_tables.specs.Deadlines.{quiet, ahead_at}
 use Rattle.rinda_tables.specs.declared.tables.Tables.{Tables}
 use Rattle.rinda_tables.specs.Holds.{Holds, stage_of}
-use Rattle.rinda_tables.specs.Tabled.{ahead_of, Becomes, Stays}
+use Rattle.rinda_tables.specs.Tabled.{ahead_of, Becomes, Stays, AddsNone}
 use Rattle.rinda_tables.proofs.AgingAll.{aged-through, others-stay, own-not-due}
 
 -- Aging gives out no id.
@@ -176,6 +176,12 @@ stays-on a b c x y = record {
   notes = y.notes ∙ x.notes;
   deadlines = λ q. y.deadlines q ∙ x.deadlines q;
 }
+
+pub adds-none : (t : Tables) → AddsNone t t
+adds-none t = record { tuple = refl; request = refl }
+
+pub adds-on : (a b c : Tables) → AddsNone a b → AddsNone b c → AddsNone a c
+adds-on a b c x y = record { tuple = y.tuple ∙ x.tuple; request = y.request ∙ x.request }
 
 pub none-left : (xs : List ℕ) (i : ℕ) → length xs ≤ i → drop i xs ≡ []
 none-left xs i le = grind (arith, common_steps)

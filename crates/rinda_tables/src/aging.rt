@@ -6,7 +6,7 @@ ghost use Rattle.rinda_notify.specs.Notes.{is_open};
 ghost use Rattle.rinda_lease.specs.Stages.{AreDue};
 ghost use Rattle.rinda_tables.specs.Dues.{is_due_noted};
 ghost use Rattle.rinda_rules.specs.Phases.{aged, age_tuple, age_request, age_notifier, age_found};
-ghost use Rattle.rinda_tables.specs.Tabled.{Stays, Becomes, BecomesBy, BecomesFor, BecomesOf};
+ghost use Rattle.rinda_tables.specs.Tabled.{Stays, AddsNone, Becomes, BecomesBy, BecomesFor, BecomesOf};
 
 use crate::tables::{Tables, parks};
 use rinda_notify::Note;
@@ -22,6 +22,7 @@ impl Tables {
     pub fn age(&mut self, alloc: Global) -> Result<(), AllocError>
         ensures becomes { OnOk result (Becomes aged self.old self.new) }
         ensures stays { Stays self.old self.new }
+        ensures none_added { AddsNone self.old self.new }
     {
         let due = self.deadlines.due(alloc, self.clock)?;
         self.age_each(alloc, &due)
@@ -31,6 +32,7 @@ impl Tables {
         requires due { AreDue self.old.deadlines.entries self.old.clock ids.now }
         ensures becomes { OnOk result (Becomes aged self.old self.new) }
         ensures stays { Stays self.old self.new }
+        ensures none_added { AddsNone self.old self.new }
     {
         for id in ids {
             self.age_at(alloc, *id)?;
@@ -47,6 +49,7 @@ impl Tables {
         ensures becomes { OnOk result
             (Becomes (λ s. age_found s (found s id)) self.old self.new) }
         ensures stays { Stays self.old self.new }
+        ensures none_added { AddsNone self.old self.new }
     {
         if self.requests.row(id).is_some() {
             self.age_request(id)
@@ -63,6 +66,7 @@ impl Tables {
         ensures becomes { OnOk result (BecomesBy id (λ e s.
             if is_due_tuple_spec s.clock e then age_tuple s e else s) self.old self.new) }
         ensures stays { Stays self.old self.new }
+        ensures none_added { AddsNone self.old self.new }
     {
         let Some(row) = self.tuples.row(id) else {
             return Ok(());
@@ -80,6 +84,7 @@ impl Tables {
         ensures becomes { OnOk result (BecomesFor id (λ r s.
             if is_due_request_spec s.clock r then age_request s r else s) self.old self.new) }
         ensures stays { Stays self.old self.new }
+        ensures none_added { AddsNone self.old self.new }
     {
         let Some(row) = self.requests.row(id) else {
             return Ok(());
@@ -97,6 +102,7 @@ impl Tables {
         ensures becomes { OnOk result (BecomesOf id (λ n s.
             if is_due_notifier_spec s.clock n then age_notifier s n else s) self.old self.new) }
         ensures stays { Stays self.old self.new }
+        ensures none_added { AddsNone self.old self.new }
     {
         let Some(note) = self.notes.note(id) else {
             return Ok(());
