@@ -65,7 +65,7 @@ refused-so turns new cap newcap old caller at event count refused e is something
   where
     by : (r : JournalError) → (r ≡ journal.Full → length turns ≡ cap) → TurnsTo caller at event (spaced turns cap) (spaced new newcap) (Err (error_of count r))
     by journal.Full full = (something, full refl, counts, same-spaced new turns newcap cap same samecap)
-    by journal.Memory full = same-spaced new turns newcap cap same samecap
+    by journal.Memory full = (something, same-spaced new turns newcap cap same samecap)
 
 pub made-so : (turns ready new : List Turn) (cap newcap : ℕ) (old : Spaced) (t b : Tables) (caller at : ℕ) (event : Event) (out : Out) → spaced turns cap ≡ old → is_nothing (plain turns) caller at event ≡ false → IsMade caller at event turns cap ready t b out → new ≡ ready → newcap ≡ cap → Makes caller at event old (spaced new newcap) out
 made-so turns ready new cap newcap old t b caller at event out is something m same samecap = subst (λ (o : Spaced). Makes caller at event o (spaced new newcap) out) is (record { something = something; room = m.room; picks = m.picks; turns = same ∙ m.prepared; cap = samecap })

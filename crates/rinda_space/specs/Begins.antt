@@ -16,7 +16,7 @@ use Rattle.rinda_tables.specs.declared.tables.Tables.{Tables}
 use Rattle.rinda_tables.specs.Holds.{Holds}
 use Rattle.rinda_tables.specs.Tabled.{ahead_of, list_of, Unadded}
 
--- No object was made yet: what stands and what is ahead have one next id.
+-- The tables hold one space as they stand and one ahead, and no object was made yet: both have one next id.
 pub record Begun (t : Tables) : Type 0 where
   pub stood : Plain
   pub now : Plain
@@ -34,7 +34,8 @@ abbrev pub first_of : Option Pick → List Pick
 first_of None = []
 first_of (Some pick) = pick ∷ []
 
--- Where the tables held a space that is to be served once it has aged, so it is served, by these picks after the first.
+-- Where the tables held s, and in s once it has aged only what was touched may be served, the picks after the case's
+-- own serve it.
 abbrev pub Ends : Touched → Option Pick → Tables → Tables → List Pick → Type 0
 Ends touched first old new picks = (s : Plain) → Unserved touched (aged s) →
     Holds s (ahead_of old) →
@@ -47,8 +48,8 @@ Steps caller event old new out picks = (s : Plain) (at : ℕ) → Sound s → Se
     Holds (advanced s at) (ahead_of old) →
     (s' : Plain) × Step s caller at event out picks s' × Holds s' (ahead_of new)
 
--- The turn was made ahead, and the journal is ready for it: where the tables held a sound and settled space, the turn is
--- a step from there.
+-- The turn was made ahead, and the journal is ready for it: where the tables held a sound and settled space, the turn
+-- is a step from there.
 pub record IsMade (caller at : ℕ) (event : Event) (turns : List Turn) (cap : ℕ)
     (ready : List Turn) (old new : Tables) (out : Out) : Type 0 where
   pub picks : List Pick

@@ -26,7 +26,7 @@ pub record Spaced : Type 0 where
 abbrev pub spaced : List Turn → ℕ → Spaced
 spaced turns cap = record { turns = turns; cap = cap }
 
--- The turn was made: it wasn't nothing, and its history is one turn longer and legal.
+-- The turn was made: the event wasn't nothing, there was room, and its history is one turn longer.
 pub record Makes (caller at : ℕ) (event : Event) (old new : Spaced) (out : Out) : Type 0 where
   pub something : is_nothing (plain old.turns) caller at event ≡ false
   pub room : length old.turns < old.cap
@@ -34,8 +34,8 @@ pub record Makes (caller at : ℕ) (event : Event) (old new : Spaced) (out : Out
   pub turns : new.turns ≡ old.turns ++ made caller at event out picks ∷ []
   pub cap : new.cap ≡ old.cap
 
--- What one turn comes to. Nothing exactly where the event is nothing; else Full exactly where there are as many turns
--- as there may be; a fault and Nothing leave the space.
+-- What one turn comes to. Nothing exactly where the event is nothing. Where it isn't, Full only where there are as many
+-- turns as there may be, and nothing but Full and Memory there. Whatever isn't Done leaves the space.
 abbrev pub TurnsTo : ℕ → ℕ → Event → Spaced → Spaced → Result Turned TurnError → Type 0
 TurnsTo caller at event old new (Ok (Done out)) = Makes caller at event old new out
 TurnsTo caller at event old new (Ok (Nothing turns)) =
@@ -44,7 +44,8 @@ TurnsTo caller at event old new (Ok (Nothing turns)) =
 TurnsTo caller at event old new (Err (Full turns)) =
     (is_nothing (plain old.turns) caller at event ≡ false) × (length old.turns ≡ old.cap)
     × (turns ≡ length old.turns) × (new ≡ old)
-TurnsTo caller at event old new (Err Memory) = new ≡ old
+TurnsTo caller at event old new (Err Memory) =
+    (is_nothing (plain old.turns) caller at event ≡ false) × (new ≡ old)
 
 -- The tables hold the space that the turns lead to, as it stands and as it is ahead, and the turns are legal.
 pub record IsSpace (turns : List Turn) (tables : Tables) : Type 0 where

@@ -11,7 +11,8 @@ use rinda_serve::{Touched, serve};
 use rinda_tables::Tables;
 use std::alloc::{AllocError, Global};
 
-/// What the event comes to in the space that the tables hold, with the time that it has: its answer and its picks.
+/// Makes the event's turn in tables that were advanced: they age, its own case is made, they age again, and what it
+/// touched is served. The answer and the picks are the result.
 ///
 /// Errors: only want of memory; what stands is as it was.
 /// Source: docs/SPACE.md, Phases.

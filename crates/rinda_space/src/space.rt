@@ -2,7 +2,7 @@
 
 ghost use Rattle.std.specs.Prelude.{◌≡◌, ◌+◌, ◌<◌, ◌^◌, [], length, IfOk, IfErr};
 ghost use Rattle.rinda_rules.specs.declared.journal.JournalError.TheVariants.{Full};
-ghost use Rattle.rinda_rules.specs.Legal.{Legal, plain};
+ghost use Rattle.rinda_rules.specs.Legal.{Legal};
 ghost use Rattle.rinda_space.specs.Spaces.{Spaced, TurnsTo, error_of as error_of_spec};
 ghost use Rattle.rinda_space.specs.Begins.{Begun, KeepsList, IsMade};
 
@@ -55,8 +55,8 @@ impl<J: Journal> Space<J> {
     /// Makes one turn of the caller, at that reading of the clock in milliseconds, where the event isn't nothing.
     ///
     /// `Nothing` exactly where the event is nothing; it makes no turn.
-    /// Errors: `Full` exactly where it isn't nothing and the journal holds as many turns as it may; `Memory` where there
-    /// was none. Both leave the space as it was.
+    /// Errors: where it isn't nothing, `Full` where the journal holds as many turns as it may, and `Memory` where there was
+    /// none. Both leave the space as it was; the event is dropped.
     /// Source: docs/SPACE.md, Phases and Nothing.
     pub fn turn(&mut self, caller: u64, at: u64, event: Event) -> Result<Turned, TurnError>
         ensures turns { TurnsTo caller at event self.old self.new result }
@@ -112,7 +112,7 @@ impl<J: Journal> Space<J> {
 
 /// Makes the turn ahead of what stands, and prepares the journal for it.
 ///
-/// Errors: `Full` exactly where the journal holds as many turns as it may, and `Memory`; what stands is as it was.
+/// Errors: `Full` only where the journal holds as many turns as it may, and `Memory`; what stands is as it was.
 fn make<J: Journal>(
     tables: &mut Tables,
     journal: &mut J,
@@ -143,7 +143,7 @@ fn make<J: Journal>(
     }
 }
 
-/// Why a journal that has as many turns as there are numbers takes no more.
+/// Why a journal takes no more that has as many turns as a u64 can count: it is full, or there was no memory.
 fn refusal<J: Journal>(
     journal: &mut J,
     alloc: Global,
@@ -162,7 +162,7 @@ fn refusal<J: Journal>(
     match prepared {
         Err(refused) => refused,
         Ok(()) => {
-            // No journal has 2^64 turns, whose number no u64 is.
+            // Its number of turns is a u64, so no journal has 2^64.
             journal.commit();
             drop(journal.len());
             unreachable!()
