@@ -14,7 +14,8 @@ use rinda_rules::{Event, Out, Pick};
 use rinda_tables::Tables;
 use std::alloc::{AllocError, Global};
 
-/// What the event comes to in the space that the tables hold: its answer, and the match that it picks, if it picks one.
+/// Makes the event's own case in the tables, ahead of what stands. The result is its answer, and the match that it picks,
+/// if it picks one.
 ///
 /// A turn makes one object at most, and fewer than 2^64 - 1 ids may have been given out.
 /// Errors: only want of memory.

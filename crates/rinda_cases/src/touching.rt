@@ -12,8 +12,7 @@ use rinda_rules::{Event, ObjectKind, RequestState};
 use rinda_serve::Touched;
 use rinda_tables::Tables;
 
-/// The one tuple or the one request that may newly be served after the event, if there is one, as the event finds the
-/// tables.
+/// What the event touches in the tables as it finds them: at most this tuple or this request may newly be served after it.
 ///
 /// Fewer than 2^64 - 1 ids may have been given out.
 pub fn touched_by(tables: &Tables, event: &Event) -> Touched

@@ -5,9 +5,9 @@
 //! `forget` goes back to what stands; neither can fail, so that a turn over several tables is done wholly or not at all.
 //!
 //! `Tables` has all of them, and the small steps of which a turn is made: where the tables held a space of the rules ahead,
-//! they then hold what the rules make of it. Whole phases of a turn so far: time that goes on, and aging. Read
-//! specs/Holds.antt (what tables hold), then `tuples`, `requests` and `deadlines`, `tables`, and `aging`. The events of a turn
-//! are not made of these steps yet.
+//! they then hold what the rules make of it; and two whole phases, time that goes on and aging. `rinda_cases` and
+//! `rinda_serve` make the others of these steps, and `rinda_space` whole turns. Read specs/Holds.antt (what tables hold), then
+//! `tuples`, `requests` and `deadlines`, `tables`, and `aging`.
 #![tactic(auto)]
 
 mod aging;
