@@ -19,8 +19,6 @@ mod reply;
 mod request;
 mod sending;
 mod stop;
-#[cfg(test)]
-mod tests;
 mod text;
 
 pub use filling::fill;

@@ -12,8 +12,6 @@
 mod blocks;
 mod causes;
 mod exceptions;
-#[cfg(test)]
-mod tests;
 mod uris;
 
 pub use blocks::{array_for_block, array_from_block};

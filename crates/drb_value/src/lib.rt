@@ -18,8 +18,6 @@ mod lists;
 mod makers;
 mod names;
 mod sizes;
-#[cfg(test)]
-mod tests;
 
 pub use copies::copy_items;
 pub use drb_tree::{Bytes, Code, RefId, Remote, Text};

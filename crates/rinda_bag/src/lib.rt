@@ -14,8 +14,6 @@ mod keys;
 mod lending;
 pub mod lent;
 mod rows;
-#[cfg(test)]
-mod tests;
 mod wanting;
 
 pub use bag::Bag;

@@ -11,8 +11,6 @@ mod keys;
 mod leases;
 mod orders;
 mod stage;
-#[cfg(test)]
-mod tests;
 
 pub use leases::Leases;
 pub use stage::Stage;

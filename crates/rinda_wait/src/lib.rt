@@ -12,8 +12,6 @@ mod places;
 mod probes;
 mod serving;
 mod table;
-#[cfg(test)]
-mod tests;
 mod waits;
 
 pub use waits::Waits;
