@@ -6,11 +6,16 @@
 //! - `times`, a number and a text: the same for that many lines like the text's first, with the rest of the text behind
 //!   them, and the number of rules in place of them;
 //! - `peer` and an IPv4 address, or `peer` alone for a peer that has none: what the last list makes of it;
+//! - `door` and peers, addresses or `-` for one that has none: who of them comes through a door with the last list, which
+//!   is gone then, two at most; and how many each of its rules refused, and at last no rule;
 //! - `#`, and any text: that text.
 //!
-//! It stands on `drb_acl`, whose contracts say what is right; `stdout` has what docs/ACCESS.md says of each line.
+//! It stands on `drb_acl` and `drb_doors`, whose contracts say what is right; `stdout` has what docs/ACCESS.md says of each line.
 #![tactic(auto)]
 
+mod door;
+
+use crate::door::show_door;
 use drb_acl::{Acl, Judged, Order, Rule, Verdict};
 use std::alloc::{AllocError, Global};
 use std::io::{BufRead, BufReader};
@@ -134,6 +139,10 @@ fn main(rt: HostRuntime) -> io::Result<()> {
             "list" => list = show_list(&rt, alloc, rest)?,
             "times" => list = show_many(&rt, alloc, rest)?,
             "peer" => show_peer(&rt, &list, rest)?,
+            "door" => match list.take() {
+                Some(acl) => show_door(&rt, alloc, acl, rest)?,
+                None => println!(&rt; "no list")?,
+            },
             "#" => println!(&rt; "# {rest}")?,
             _ => println!(&rt; "no such word")?,
         }

@@ -1,3 +1,4 @@
 pub mod Judgings
 pub mod Cutting
 pub mod FirstLines
+pub mod Guardings

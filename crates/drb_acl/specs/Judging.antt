@@ -13,6 +13,9 @@ pub record Access : Type 0 where
   pub order : Order
   pub rules : List Rule
 
+abbrev pub access : Order → List Rule → Access
+access order rules = record { order = order; rules = rules }
+
 -- two addresses have the same first bits
 abbrev pub same_front : ℕ → ℕ → ℕ → Bool
 same_front bits a b = a / 2 ^ (32 - bits) == b / 2 ^ (32 - bits)

@@ -5,3 +5,4 @@ pub mod Reading
 pub mod Steps
 pub mod Laws
 pub mod FirstWrong
+pub mod Guarding

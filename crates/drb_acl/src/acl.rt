@@ -1,20 +1,14 @@
 //! An access list.
 
-ghost use Rattle.std.specs.Prelude.{◌≡◌, ℕ, ◌+◌, ◌<◌, ◌^◌, false, List, ◌∷◌, IfOk, IfErr, Ok};
-ghost use Rattle.drb_acl.specs.declared.line.Line.{Line};
-ghost use Rattle.drb_acl.specs.Judging.{judged_of, first, deny_allow, allow_deny};
-ghost use Rattle.drb_acl.specs.Reading.{reading, unsaid, IsToldOf};
-ghost use Rattle.drb_acl.specs.Steps.{rest_of, Goes, Stops, Fresh};
+ghost use Rattle.std.specs.Prelude.{◌≡◌, IfOk, IfErr, Ok};
+ghost use Rattle.drb_acl.specs.Judging.{judged_of};
+ghost use Rattle.drb_acl.specs.Reading.{reading, IsToldOf};
 
-use crate::cut::cut;
-use crate::line::{Line, line_of};
-use crate::rule::{Order, Rule, Verdict};
+use crate::listing::Listing;
+use crate::rule::{Order, Rule};
 use std::alloc::Global;
 use std::marker::Model;
 use thiserror::Error;
-
-/// How many rules there may be.
-const MOST: usize = 1_024;
 
 /// What becomes of a peer, with the number of the rule that says so, from 0; None where no rule does.
 #[derive(Clone, Copy, Debug, PartialEq, Eq)]
@@ -44,18 +38,20 @@ pub enum AclError {
 /// An access list. Contracts see its order, and its rules as they stand in the file.
 #[derive(Debug, Drop)]
 pub struct Acl {
-    order: Order,
-    rules: Vec<Rule>,
+    pub(crate) listing: Listing,
+    // room for a count of each rule, and for one more
+    pub(crate) counts: Vec<u64>,
 }
 
 impl Model for Acl {
+    ghost use Rattle.std.specs.Prelude.{◌≡◌, ◌+◌, length, replicate};
     ghost use Rattle.drb_acl.specs.Judging.{Access};
 
     ghost Value = { Access };
 
-    ghost view = { λ a. record { order = a.order; rules = a.rules.items } };
+    ghost view = { λ a. a.listing };
 
-    ghost invariant = { λ a. Unit {0} };
+    ghost invariant = { λ a. a.counts.items ≡ replicate (length a.listing.rules + 1) 0 };
 }
 
 impl Acl {
@@ -68,20 +64,11 @@ impl Acl {
         ensures acl { IfOk result (λ acl. reading text.now ≡ Ok acl) }
         ensures refusal { IfErr result (λ e. IsToldOf (reading text.now) e) }
     {
-        let mut acl = Acl {
-            order: Order::DenyAllow,
-            rules: Vec::new(alloc),
+        let listing = Listing::parse(alloc, text)?;
+        let Ok(counts) = vec![in alloc; 0; listing.rules.len() + 1] else {
+            return Err(AclError::Memory);
         };
-        let mut begun = false;
-        let mut number = 1;
-        let mut rest = Some(text);
-        while let Some(text) = rest {
-            let (line, behind) = cut(text, b'\n');
-            begun = acl.take(begun, number, line_of(line))?;
-            number += 1;
-            rest = behind;
-        }
-        Ok(acl)
+        Ok(Acl { listing, counts })
     }
 
     /// What becomes of a peer: an IPv4 address, or None for a peer that has none. Takes no memory.
@@ -90,80 +77,20 @@ impl Acl {
     pub fn judge(&self, peer: Option<u32>) -> Judged
         ensures { result ≡ judged_of self.now peer }
     {
-        let allow = self.first(Verdict::Allow, peer);
-        let deny = self.first(Verdict::Deny, peer);
-        match self.order {
-            Order::DenyAllow => deny_allow(allow, deny),
-            Order::AllowDeny => allow_deny(allow, deny),
-        }
+        self.listing.judge(peer)
     }
 
     /// The order of the words.
     pub fn order(&self) -> Order
         ensures { result ≡ self.now.order }
     {
-        self.order
+        self.listing.order
     }
 
     /// The rules, as they stand in the file.
     pub fn rules(&self) -> &[Rule]
         ensures { result.now ≡ self.now.rules }
     {
-        self.rules.as_slice()
-    }
-
-    /// The number of the first rule that says that of the peer.
-    fn first(&self, verdict: Verdict, peer: Option<u32>) -> Option<usize>
-        ensures { result ≡ first verdict peer self.now.rules }
-    {
-        self.rules.iter().position(|rule| rule.says(verdict, peer))
-    }
-
-    /// Takes what the line with that number says; answers whether anything has been said by then.
-    fn take(&mut self, begun: bool, number: usize, line: Line) -> Result<bool, AclError>
-        requires { Fresh begun self.old }
-        ensures goes { IfOk result (λ now. Goes begun self.old number line now self.new) }
-        ensures stops { IfErr result (λ e. Stops begun self.old number line e) }
-    {
-        match line {
-            Line::Nothing => Ok(begun),
-            Line::Order(order) if !begun => {
-                self.order = order;
-                Ok(true)
-            }
-            Line::Rule(rule) if self.rules.len() < MOST => {
-                if self.rules.push(rule).is_err() {
-                    return Err(AclError::Memory);
-                }
-                Ok(true)
-            }
-            Line::Rule(_) => Err(AclError::TooMany { line: number }),
-            Line::NoPattern => Err(AclError::Address { line: number }),
-            Line::Order(_) | Line::NoForm => Err(AclError::Word { line: number }),
-        }
-    }
-}
-
-fn deny_allow(allow: Option<usize>, deny: Option<usize>) -> Judged
-    ensures { result ≡ deny_allow allow deny }
-{
-    match allow {
-        Some(rule) => Judged::Admitted(Some(rule)),
-        None => match deny {
-            Some(rule) => Judged::Refused(Some(rule)),
-            None => Judged::Admitted(None),
-        },
-    }
-}
-
-fn allow_deny(allow: Option<usize>, deny: Option<usize>) -> Judged
-    ensures { result ≡ allow_deny allow deny }
-{
-    match deny {
-        Some(rule) => Judged::Refused(Some(rule)),
-        None => match allow {
-            Some(rule) => Judged::Admitted(Some(rule)),
-            None => Judged::Refused(None),
-        },
+        self.listing.rules.as_slice()
     }
 }

@@ -1,11 +1,2 @@
-pub mod Ascii
-pub mod Symbols
-pub mod Loop
-pub mod WholeLists
-pub mod FirstRequest
-pub mod Taking
-pub mod FirstReply
-pub mod Words
-pub mod Serving
-pub mod Complete
-pub mod Fronts
+pub mod Options
+pub mod Whole

@@ -1,8 +1,3 @@
-pub mod Plainly
-pub mod Marked
-pub mod Requests
-pub mod Reads
-pub mod Replies
-pub mod Clocks
-pub mod Turns
-pub mod Sessions
+pub mod Words
+pub mod Named
+pub mod Runs

@@ -1,58 +1,71 @@
 //! The program `drbts`.
 //!
-//! Today it has one command, `drbts stdio`, which serves one request off standard input. All that the command does is
-//! one public call, `session::stdio_run`, which takes what it meets outside as arguments; `main` is the adapters over
-//! the system and that call. Stands on the rules of the space, the grammar of dumps, packets and the outside. Read
-//! `session`, then `request` and `plain`, which read the request, and `space`, which makes the turn; `edge` has the
-//! adapters.
+//! Today it has one command, `drbts stdio`, which serves a session of requests over standard input and standard output.
+//! All that the command does is one public call, `stdio::stdio_run`, which takes what it meets outside as arguments;
+//! `main` is the adapters over the system and that call. Stands on sessions (`drb_session`), on the space that keeps its
+//! history (`rinda_space`) and on the outside. Read `specs/Words.antt` and `words`, then `specs/Runs.antt` and `stdio`;
+//! `edge` has the adapters.
 #![tactic(auto)]
 
 mod edge;
-mod marks;
-mod plain;
-mod request;
-mod session;
-mod space;
+mod stdio;
+mod words;
 
-use crate::edge::{Reading, WallClock, Writing};
-use crate::session::stdio_run;
-use drb_outside::ScriptDialer;
+use crate::edge::{Dialing, Reading, WallClock, Writing};
+use crate::stdio::{Status, stdio_run};
+use drb_outside::Buffered;
+use rinda_marks::Secret;
 use std::process::ExitCode;
+use std::random::RandomSource;
 use std::{env, io};
 
-/// The words after the program's name; `None` where one of them is no text, or out of memory.
-fn words_of(rt: &HostRuntime) -> Option<Vec<String>> {
+/// The words after the program's name.
+fn words_of(rt: &HostRuntime) -> io::Result<Vec<String>> {
     let mut words = Vec::new(rt.alloc());
-    for word in env::args(rt).ok()?.skip(1) {
-        words.push(word).ok()?;
+    for word in env::args(rt)?.skip(1) {
+        words.push(word)?;
     }
-    Some(words)
+    Ok(words)
 }
 
-fn main(rt: HostRuntime) -> ExitCode {
-    let Some(words) = words_of(&rt) else {
-        return ExitCode::from(1);
+/// Two random words of the system.
+fn secret_of(rt: &HostRuntime) -> io::Result<Secret> {
+    let mut first = [0; 8];
+    let mut second = [0; 8];
+    rt.fill_bytes(&mut first)?;
+    rt.fill_bytes(&mut second)?;
+    Ok(Secret::new(u64::from_le_bytes(first), u64::from_le_bytes(second)))
+}
+
+/// The command over the system.
+fn run(rt: &HostRuntime, words: &[String]) -> io::Result<Status> {
+    let secret = secret_of(rt)?;
+    let Ok(mut input) = Buffered::new(rt.alloc(), Reading::new(rt.stdin())) else {
+        return Ok(Status(7));
     };
-    let mut input = Reading {
-        inner: rt.stdin(),
-        faults: 0,
-    };
-    let mut output = Writing {
-        inner: rt.stdout(),
-        faults: 0,
-    };
-    let mut clock = WallClock { rt: &rt };
-    let mut dialer = ScriptDialer::new(Vec::new(rt.alloc()), Vec::new(rt.alloc()));
-    let status = stdio_run(
+    let mut output = Writing::new(rt.stdout());
+    let mut clock = WallClock { rt };
+    let mut dialer = Dialing::new(rt);
+    Ok(stdio_run(
         rt.alloc(),
-        &words,
+        secret,
+        words,
         &mut input,
         &mut output,
         &mut clock,
         &mut dialer,
-    );
-    ExitCode::from(status.0)
+    ))
 }
 
-#[cfg(test)]
-mod tests;
+fn main(rt: HostRuntime) -> ExitCode {
+    let Ok(words) = words_of(&rt) else {
+        return ExitCode::from(1);
+    };
+    let Ok(status) = run(&rt, &words) else {
+        return ExitCode::from(7);
+    };
+    if status.0 == 1 {
+        let _ = eprintln!(&rt; "usage: drbts stdio [--uri U] [--max-turns N] [--load-limit N]");
+    }
+    ExitCode::from(status.0)
+}

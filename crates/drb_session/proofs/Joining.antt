@@ -32,8 +32,8 @@ use Rattle.drb_script.specs.Acting.{makes, wants, lost}
 use Rattle.drb_script.specs.Rest.{loose_turn, weight, is_glance}
 use Rattle.drb_script.specs.Stands.{Action, turned, called, Script, IsBefore, Stands, CalledTo, TurnedTo, clearing}
 use Rattle.drb_script.proofs.Standing.{stands_reply, stands_turn, stands_lost}
-use Rattle.drb_session.specs.declared.turns.TurnError.{TurnError}
-use Rattle.drb_session.specs.declared.turns.TurnError.TheVariants as turn_error
+use Rattle.rinda_space.specs.declared.turned.TurnError.{TurnError}
+use Rattle.rinda_space.specs.declared.turned.TurnError.TheVariants as turn_error
 use Rattle.drb_session.specs.declared.making.Glance.{Glance}
 use Rattle.drb_session.specs.declared.making.Halt.{Halt}
 use Rattle.drb_session.specs.declared.making.Halt.TheVariants.{Full, Memory}

@@ -3,3 +3,4 @@ pub mod Calling
 pub mod Joining
 pub mod Wholes
 pub mod Completing
+pub mod OfSpace

@@ -8,14 +8,14 @@ use Rattle.rinda_rules.specs.declared.turn.Turn.{Turn}
 use Rattle.rinda_rules.specs.declared.event.Event.{Event}
 use Rattle.rinda_rules.specs.declared.out.Out.{Out}
 use Rattle.rinda_rules.specs.declared.start.Start.{Start}
-use Rattle.rinda_rules.specs.Space.{Plain, opening}
-use Rattle.rinda_rules.specs.Starts.{StandsFor}
+use Rattle.rinda_rules.specs.Space.{Plain}
 use Rattle.rinda_rules.specs.Legal.{LegalFrom, plain_from}
 use Rattle.rinda_rules.specs.Nothing.{is_nothing}
-use Rattle.drb_session.specs.declared.turns.Turned.{Turned}
-use Rattle.drb_session.specs.declared.turns.Turned.TheVariants.{Done, Nothing}
-use Rattle.drb_session.specs.declared.turns.TurnError.{TurnError}
-use Rattle.drb_session.specs.declared.turns.TurnError.TheVariants.{Full, Memory}
+use Rattle.rinda_space.specs.Spaces.{Spaced, StartsAt}
+use Rattle.rinda_space.specs.declared.turned.Turned.{Turned}
+use Rattle.rinda_space.specs.declared.turned.Turned.TheVariants.{Done, Nothing}
+use Rattle.rinda_space.specs.declared.turned.TurnError.{TurnError}
+use Rattle.rinda_space.specs.declared.turned.TurnError.TheVariants.{Full, Memory}
 
 -- A caller: its number; the stored rows that the histories start from, if they don't start from the empty space; the
 -- turns that it has seen; its own ones; how many turns there are at least; how many there may be; and the monitor by
@@ -29,14 +29,21 @@ pub record Pass : Type 0 where
   pub cap : ℕ
   pub beside : Option TableId
 
--- A space that the histories start from: the empty one, or one that the stored rows stand for.
-abbrev pub StartsAt : Option Start → Plain → Type 0
-StartsAt None s = s ≡ opening
-StartsAt (Some start) s = StandsFor start s
-
 -- the turns of this caller
 abbrev pub turns_by : ℕ → List Turn → List Turn
 turns_by caller turns = turns_of (λ t. t.caller) caller turns
+
+-- who is the only caller of a space: it has seen all turns, and its own ones among them are its own
+abbrev pub alone : ℕ → Spaced → Pass
+alone caller space = record {
+  caller = caller;
+  start = space.start;
+  seen = space.turns;
+  mine = turns_by caller space.turns;
+  known = 0;
+  cap = space.cap;
+  beside = None;
+}
 
 -- the event finds nothing to do after the turns that were seen, from wherever they start
 abbrev pub FindsNothing : Pass → ℕ → Event → Type 0

@@ -19,8 +19,8 @@ use Rattle.drb_script.specs.declared.next.Next.TheVariants as step
 use Rattle.drb_script.specs.Rest.{weight}
 use Rattle.drb_script.specs.Acting.{makes}
 use Rattle.drb_script.specs.Stands.{Action, turned, Script, IsBefore, Stops, Clears, Stands, TurnedTo}
-use Rattle.drb_session.specs.declared.turns.TurnError.{TurnError}
-use Rattle.drb_session.specs.declared.turns.TurnError.TheVariants as turn_error
+use Rattle.rinda_space.specs.declared.turned.TurnError.{TurnError}
+use Rattle.rinda_space.specs.declared.turned.TurnError.TheVariants as turn_error
 use Rattle.drb_session.specs.declared.making.Halt.{Halt}
 use Rattle.drb_session.specs.declared.making.Halt.TheVariants.{Full, Memory}
 use Rattle.drb_session.specs.declared.making.Looked.{Looked}

@@ -7,10 +7,11 @@ ghost use Rattle.drb_session.specs.Passes.{Lawful};
 ghost use Rattle.drb_session.specs.Glances.{glance_of as glance_spec, event_of};
 ghost use Rattle.drb_session.specs.Runs.{Made, LooksTo, GrowsAt, Glimpses, halt_of as halt_spec};
 
-use crate::turns::{TurnError, Turned, Turns};
+use crate::turns::Turns;
 use drb_outside::Clock;
 use drb_script::Patience;
 use rinda_rules::{Event, Out};
+use rinda_space::{TurnError, Turned};
 
 /// Why a script goes no further.
 ///

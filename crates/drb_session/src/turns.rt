@@ -3,25 +3,8 @@
 ghost use Rattle.std.specs.Prelude.{◌≡◌, ◌<◌, ◌≤◌, ℕ, length, Bool, true, []};
 ghost use Rattle.drb_session.specs.Passes.{Pass, Lawful, Tries, Sees};
 
-use rinda_rules::{Event, Out};
-
-/// What a try of an event came to.
-#[derive(Drop)]
-pub enum Turned {
-    /// The turn was made, and this is its answer.
-    Done(Out),
-    /// There was nothing to do after so many turns, and no turn was made.
-    Nothing { turns: u64 },
-}
-
-/// Why no turn was made, though there was something to do.
-#[derive(Clone, Copy, Debug, PartialEq, Eq)]
-pub enum TurnError {
-    /// The history has as many turns as it may have, which is so many.
-    Full { turns: u64 },
-    /// There was no memory.
-    Memory,
-}
+use rinda_rules::Event;
+use rinda_space::{TurnError, Turned};
 
 /// The turns of one caller in a history that others may share.
 ///

@@ -25,7 +25,7 @@ use Rattle.rinda_rules.proofs.Lists.{row_has_id}
 use Rattle.rinda_tables.specs.Holds.{Held, Holds}
 use Rattle.rinda_tables.specs.Tabled.{ahead_of}
 use Rattle.rinda_tables.specs.declared.tables.Tables.{Tables}
-use Rattle.rinda_cases.specs.Makes.{Is, IsPicked}
+use Rattle.rinda_cases.specs.Makes.{Is, IsPicked, least_match}
 use Rattle.rinda_cases.specs.Requests.{not_own, expires, IsSubmitted, served_answer, served_at_once}
 use Rattle.rinda_cases.proofs.RequestsOwn.{is-case, only-answers, own-found, not-on-own, its-row}
 use Rattle.rinda_cases.proofs.RequestsFound.{Matches, served-is}
@@ -50,10 +50,11 @@ submitted-none s r new o is none case = (
   is-case (submit s r None r.state) (submit_unmatched s r) new o (ap (submit s r None) (reserved r.state is)) case,
 )
 
-pub submitted-some : (s : Plain) (r : Request) (id tuple : ℕ) (t : Entry) (new : Tables) (o : Out) → r.id ≡ id → is_reserved r.state ≡ true → Matches s r tuple t → Is (collect_served (served_with r t s) r t r.kind) new o → IsSubmitted s r new o (Some (record { request = id; tuple = tuple }))
-submitted-some s r id tuple t new o same is m case = (
+pub submitted-some : (s : Plain) (r : Request) (id tuple : ℕ) (t : Entry) (new : Tables) (o : Out) → r.id ≡ id → is_reserved r.state ≡ true → Matches s r tuple t → Some tuple ≡ least_match s r → Is (collect_served (served_with r t s) r t r.kind) new o → IsSubmitted s r new o (Some (record { request = id; tuple = tuple }))
+submitted-some s r id tuple t new o same is m least case = (
   both _ _ is m.has,
   subst (λ (i : ℕ). is_match s r (record { request = i; tuple = tuple }) ≡ true) same m.match,
+  sym least,
   is-case (submit s r (tuple_at s tuple) r.state) (collect_served (served_with r t s) r t r.kind) new o
       (ap (submit s r (tuple_at s tuple)) (reserved r.state is) ∙ ap (submit_matched s r) m.there) case,
 )
@@ -93,8 +94,9 @@ picked s caller id r new o (Some pick) is own h = (
   r,
   ap (matched s caller) is ∙ own-matched s caller r true own h.0,
   h.1,
+  h.2,
   is-case _ (submit s r (tuple_at s pick.tuple) r.state) new o
-      (own-case s caller id r (λ r. submit s r (tuple_at s pick.tuple) r.state) is own) h.2,
+      (own-case s caller id r (λ r. submit s r (tuple_at s pick.tuple) r.state) is own) h.3,
 )
 
 pub answers-own : (s : Plain) (caller id : ℕ) (new : Tables) (o : Out) (pick : Option Pick) → None ≡ not_own caller (found s id) → ((r : Request) → request_at s id ≡ Some r → IsSubmitted s r new o pick) → IsPicked s caller (Submit id) new o pick

@@ -1,5 +1,5 @@
 -- What a case makes of the space that tables hold. docs/SPACE.md, Cases.
-use Rattle.std.specs.Prelude.{◌≡◌, ℕ, Bool, true, false, map, Option, Some, None}
+use Rattle.std.specs.Prelude.{◌≡◌, ℕ, Bool, true, false, not, map, Option, Some, None}
 use Rattle.rinda_rules.specs.declared.event.Event.{Event}
 use Rattle.rinda_rules.specs.declared.event.Event.TheVariants as event
 use Rattle.rinda_rules.specs.declared.out.Out.TheVariants as out
@@ -10,11 +10,12 @@ use Rattle.rinda_rules.specs.declared.turn.Pick.{Pick}
 use Rattle.rinda_rules.specs.declared.plain.Entry.{Entry}
 use Rattle.rinda_rules.specs.declared.plain.Request.{Request}
 use Rattle.rinda_rules.specs.declared.plain.Notifier.{Notifier}
-use Rattle.rinda_rules.specs.Space.{Plain, tuple_at, request_at, notifier_at}
+use Rattle.rinda_rules.specs.Space.{Plain, tuple_at, request_at, notifier_at, is_read}
 use Rattle.rinda_rules.specs.Phases.{is_match, raised}
 use Rattle.rinda_rules.specs.Cases.{Outcome, outcome, read_by}
 use Rattle.rinda_rules.specs.Steps.{chooser}
 use Rattle.rinda_rules.specs.Sound.{Sound}
+use Rattle.rinda_bag.specs.Wanted.{least_wanted}
 use Rattle.rinda_tables.specs.Holds.{Holds}
 use Rattle.rinda_tables.specs.Tabled.{ahead_of, new_entry, with_passed_tuple}
 use Rattle.rinda_tables.specs.declared.tables.Tables.{Tables}
@@ -42,13 +43,18 @@ abbrev pub MakesOf : ℕ → (Notifier → Plain → Outcome) → Tables → Tab
 MakesOf id case old new out = (s : Plain) (n : Notifier) → Holds s (ahead_of old) →
     notifier_at s id ≡ Some n → Is (case n s) new out
 
+-- the least id of a tuple that the request may have
+abbrev pub least_match : Plain → Request → Option ℕ
+least_match s r = least_wanted s.clock (not (is_read r.kind)) r.pattern s.tuples
+
 -- The case with the match that it picked, if it picks one: the event's own case picks none where nobody chooses, and
--- else a match of the one who does.
+-- else the least match of the one who does.
 abbrev pub IsPicked : Plain → ℕ → Event → Tables → Out → Option Pick → Type 0
 IsPicked s caller event new out None =
     (chooser s caller event ≡ None) × Is (outcome s caller event None) new out
 IsPicked s caller event new out (Some pick) =
     (r : Request) × (chooser s caller event ≡ Some r) × (is_match s r pick ≡ true)
+    × (least_match s r ≡ Some pick.tuple)
     × Is (outcome s caller event (tuple_at s pick.tuple)) new out
 
 -- Where the tables held a sound space ahead, this is the answer to the event there, with this pick.

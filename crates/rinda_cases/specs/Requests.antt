@@ -16,7 +16,7 @@ use Rattle.rinda_rules.specs.Cases.{collect_served, submit}
 use Rattle.rinda_tables.specs.Holds.{Holds}
 use Rattle.rinda_tables.specs.Tabled.{ahead_of}
 use Rattle.rinda_tables.specs.declared.tables.Tables.{Tables}
-use Rattle.rinda_cases.specs.Makes.{Is}
+use Rattle.rinda_cases.specs.Makes.{Is, least_match}
 
 -- the request is there, and the caller's
 abbrev pub is_own : ℕ → Option Request → Bool
@@ -41,7 +41,8 @@ abbrev pub IsSubmitted : Plain → Request → Tables → Out → Option Pick �
 IsSubmitted s r new out None = ((is_reserved r.state && has_match s r) ≡ false)
     × Is (submit s r None r.state) new out
 IsSubmitted s r new out (Some pick) = ((is_reserved r.state && has_match s r) ≡ true)
-    × (is_match s r pick ≡ true) × Is (submit s r (tuple_at s pick.tuple) r.state) new out
+    × (is_match s r pick ≡ true) × (least_match s r ≡ Some pick.tuple)
+    × Is (submit s r (tuple_at s pick.tuple) r.state) new out
 
 -- Where tables held a space ahead, this is the answer to the request that has that id, with this match.
 abbrev pub Submits : ℕ → Tables → Tables → Out → Option Pick → Type 0

@@ -20,7 +20,7 @@ use std::alloc::{AllocError, Global};
 /// Writes a copy of the tuple.
 ///
 /// A turn makes one object at most, and fewer than 2^64 - 1 ids may have been given out.
-/// Errors: only want of memory.
+/// Errors: only want of memory; what is ahead may then be changed in part, and what stands is as it was.
 /// Source: docs/SPACE.md, Cases, Write.
 pub fn write(
     tables: &mut Tables,
@@ -92,7 +92,7 @@ fn write_over(tables: &mut Tables, alloc: Global, value: &Tuple) -> Result<u64, 
 /// Makes a request with a copy of the template, which is not submitted yet.
 ///
 /// A turn makes one object at most, and fewer than 2^64 - 1 ids may have been given out.
-/// Errors: only want of memory.
+/// Errors: only want of memory; what is ahead may then be changed in part, and what stands is as it was.
 /// Source: docs/SPACE.md, Cases, Reserve.
 pub fn reserve(
     tables: &mut Tables,
@@ -127,7 +127,7 @@ pub fn reserve(
 /// Makes a notifier with copies of both patterns.
 ///
 /// A turn makes one object at most, and fewer than 2^64 - 1 ids may have been given out.
-/// Errors: only want of memory.
+/// Errors: only want of memory; what is ahead may then be changed in part, and what stands is as it was.
 /// Source: docs/SPACE.md, Cases, Notify.
 pub fn notify(
     tables: &mut Tables,

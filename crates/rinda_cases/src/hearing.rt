@@ -15,7 +15,7 @@ use std::alloc::{AllocError, Global};
 
 /// Takes the next event off a notifier's queue.
 ///
-/// Errors: only want of memory.
+/// Errors: only want of memory; what is ahead may then be changed in part, and what stands is as it was.
 /// Source: docs/SPACE.md, Cases, Pop.
 pub fn pop(tables: &mut Tables, alloc: Global, id: u64) -> Result<Out, AllocError>
     ensures made { IfOk result (λ out.
@@ -34,7 +34,7 @@ pub fn pop(tables: &mut Tables, alloc: Global, id: u64) -> Result<Out, AllocErro
 
 /// Gives up waiting: for the caller's own request, or for a notifier's next event.
 ///
-/// Errors: only want of memory.
+/// Errors: only want of memory; what is ahead may then be changed in part, and what stands is as it was.
 /// Source: docs/SPACE.md, Cases, Withdraw.
 pub fn withdraw(tables: &mut Tables, alloc: Global, caller: u64, id: u64) -> Result<Out, AllocError>
     ensures made { IfOk result (λ out.

@@ -15,10 +15,10 @@ use rinda_tables::Tables;
 use std::alloc::{AllocError, Global};
 
 /// Makes the event's own case in the tables, ahead of what stands. The result is its answer, and the match that it picks,
-/// if it picks one.
+/// if it picks one: the least that the request may have.
 ///
 /// A turn makes one object at most, and fewer than 2^64 - 1 ids may have been given out.
-/// Errors: only want of memory.
+/// Errors: only want of memory; what is ahead may then be changed in part, and what stands is as it was.
 /// Source: docs/SPACE.md, Cases.
 pub fn case(
     tables: &mut Tables,

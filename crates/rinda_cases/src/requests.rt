@@ -25,7 +25,7 @@ use std::marker::Brand;
 use std::sync::ledger::{Blank, Ledger};
 
 /// The caller's own request is served at once where it has a match, and else waits, unless it was canceled or its time is
-/// over. With the answer comes the match that it got.
+/// over. With the answer comes the match that it got, the least.
 ///
 /// Errors: only want of memory; what is ahead may then be changed in part, and what stands is as it was.
 /// Source: docs/SPACE.md, Cases, Submit.

@@ -3,3 +3,4 @@ pub mod Undone
 pub mod Gone
 pub mod Told
 pub mod Ended
+pub mod Grown

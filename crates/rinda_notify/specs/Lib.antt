@@ -3,3 +3,4 @@ pub mod Chains
 pub mod Undoing
 pub mod Tables
 pub mod Laws
+pub mod Changed

@@ -1,6 +1,6 @@
 -- The notifiers as they are ahead, and the steps that lead back to those that stand.
-use Rattle.std.specs.Prelude.{ℕ, Bool, true, false, not, ◌==◌, List, [], ◌∷◌, ◌++◌, filter, Option, Some, None}
-use Rattle.std.specs.List.{list_all, list_any}
+use Rattle.std.specs.Prelude.{ℕ, Bool, true, false, not, ◌==◌, List, [], ◌∷◌, ◌++◌, filter, Option, Some, None, if◌then◌else◌}
+use Rattle.std.specs.List.{list_all, list_any, filter_map}
 use Rattle.drb_tree.specs.declared.Tree.{Tree}
 use Rattle.rinda_notify.specs.declared.note.Note.{Note}
 use Rattle.rinda_notify.specs.declared.step.Standing.{Standing}
@@ -68,6 +68,16 @@ starts id (step.Started i) = i == id
 -- the notifier with that id is new
 abbrev pub is_started : ℕ → List Step → Bool
 is_started id steps = list_any (starts id) steps
+
+-- the notifier that heard an event by that step, or may have ended by it
+abbrev pub changed_by : Step → Option ℕ
+changed_by (step.Event id) = Some id
+changed_by (step.Popped id event) = None
+changed_by (step.Stood id standing) = if is_open standing.state then Some id else None
+changed_by (step.Started id) = None
+
+abbrev pub changed_ids : List Step → List ℕ
+changed_ids steps = filter_map changed_by steps
 
 -- each of these ids has a notifier
 abbrev pub are_there : List ℕ → List Note → Bool

@@ -19,8 +19,6 @@ mod queue;
 mod rows;
 mod step;
 mod stored;
-#[cfg(test)]
-mod tests;
 
 pub use note::{Note, Popped};
 pub use notes::Notes;

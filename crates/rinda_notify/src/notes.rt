@@ -5,13 +5,14 @@ ghost use Rattle.rinda_rules.specs.declared.object.Last.TheVariants as last;
 ghost use Rattle.rinda_notify.specs.declared.note.Popped.TheVariants as popped;
 ghost use Rattle.rinda_notify.specs.Notes.{settled, note_at, with_note, without_note, is_open_at, told, closed, shut_note, pop_of, dry_at, left_by, advanced, renewed, answered, doubted, asked, loaded, first_at};
 ghost use Rattle.rinda_notify.specs.Undoing.{has_run as has_run_spec};
+ghost use Rattle.rinda_notify.specs.Changed.{NamesChanged};
 ghost use Rattle.rinda_notify.specs.Tables.{below};
 
 use crate::chain::Kept;
 use crate::changes::{add, add_steps, close, keep_standing, raise, shut, sweep, undo_all};
 use crate::note::{Note, Popped, is_open};
 use crate::rows::{Rows, is_gone};
-use crate::step::{Step, is_started};
+use crate::step::{Step, changed_ids, is_started};
 use crate::stored::note_from;
 use drb_tree::Remote;
 use drb_value::Value;
@@ -109,6 +110,20 @@ impl Notes {
             Some(row) => row.queue.first(),
             None => None,
         }
+    }
+
+    /// The ids, in any order, of the notifiers that run in what stands and, ahead, are closed or gone or have more events
+    /// in their queues. It may name others, and one twice.
+    ///
+    /// It goes over the changes that were made ahead, however many notifiers there are.
+    /// Errors: only want of memory.
+    /// Source: docs/SPACE.md, Changed.
+    pub fn changes(&self, alloc: Global) -> Result<Vec<u64>, AllocError>
+        ensures { IfOk result (λ ids. NamesChanged self.now ids.items) }
+    {
+        let mut ids = changed_ids(alloc, &self.steps)?;
+        ids.extend_from_slice(self.gone.as_slice())?;
+        Ok(ids)
     }
 
     /// This happened to the tuple: the event comes to the queue of each notifier that runs and hears it, doubted or

@@ -1,10 +1,10 @@
 //! What takes the changes of the notifiers back.
 
 ghost use Rattle.std.specs.Prelude.{◌≡◌, IfOk};
-ghost use Rattle.rinda_notify.specs.Undoing.{standing_of as standing_of_spec, starts as starts_spec, is_started as is_started_spec};
+ghost use Rattle.rinda_notify.specs.Undoing.{standing_of as standing_of_spec, starts as starts_spec, is_started as is_started_spec, changed_by as changed_by_spec, changed_ids as changed_ids_spec};
 
 use crate::chain::Kept;
-use crate::note::Note;
+use crate::note::{Note, is_open};
 use drb_tree::Remote;
 use rinda_rules::{Doubt, NoteState};
 use rinda_tuple::copy_renewer;
@@ -62,5 +62,37 @@ fn starts(step: &Step, id: u64) -> bool
         Step::Popped(_, _) => false,
         Step::Stood(_, _) => false,
         Step::Started(started) => *started == id,
+    }
+}
+
+/// The ids of the notifiers that heard an event by these steps, or may have ended by them.
+///
+/// Errors: only want of memory.
+pub(crate) fn changed_ids(alloc: Global, steps: &Vec<Step>) -> Result<Vec<u64>, AllocError>
+    ensures { IfOk result (λ ids. ids.items ≡ changed_ids_spec steps.now.items) }
+{
+    let mut ids = Vec::new(alloc);
+    for step in steps.iter() {
+        if let Some(id) = changed_by(step) {
+            ids.push(id)?;
+        }
+    }
+    Ok(ids)
+}
+
+fn changed_by(step: &Step) -> Option<u64>
+    ensures { result ≡ changed_by_spec step.now }
+{
+    match step {
+        Step::Event(id) => Some(*id),
+        Step::Popped(_, _) => None,
+        Step::Stood(id, standing) => {
+            if is_open(standing.state) {
+                Some(*id)
+            } else {
+                None
+            }
+        }
+        Step::Started(_) => None,
     }
 }

@@ -1,5 +1,7 @@
 -- What was touched is served.
-use Rattle.std.proofs.Common.{◌≡◌, ℕ, true, false, List, [], ◌∷◌, ◌++◌, Option, Some, None, refl, sym, ◌∙◌, ap, subst}
+use Rattle.std.proofs.Common.{◌≡◌, ℕ, Bool, true, false, List, [], ◌∷◌, ◌++◌, Option, Some, None, refl, sym, ◌∙◌, ap, subst}
+use Rattle.std.specs.Prelude.{if◌then◌else◌}
+use Rattle.std.proofs.lemmas.List.{append-nil}
 use Rattle.rinda_rules.specs.declared.turn.Pick.{Pick}
 use Rattle.rinda_rules.specs.declared.plain.Entry.{Entry}
 use Rattle.rinda_rules.specs.declared.plain.Request.{Request}
@@ -18,7 +20,7 @@ use Rattle.rinda_wait.specs.Waiting.{readers_of}
 use Rattle.rinda_tables.specs.declared.tables.Tables.{Tables}
 use Rattle.rinda_tables.specs.Holds.{Holds}
 use Rattle.rinda_tables.specs.Tabled.{ahead_of}
-use Rattle.rinda_serve.specs.Serving.{Serves, BecomesWith, ReadsWith, taker_for, match_of}
+use Rattle.rinda_serve.specs.Serving.{Serves, PicksFor, BecomesWith, ReadsWith, taker_for, match_of, taker_picks, tuple_picks, request_picks}
 use Rattle.rinda_serve.proofs.Rising.{FoundRow}
 use Rattle.rinda_serve.proofs.Tells.{told_all, read-by-id}
 use Rattle.rinda_serve.proofs.Waits.{readers-are, read-all-same, none-takes, one-takes, taker-reads-not, one-match, no-match}
@@ -110,3 +112,46 @@ one-served id tuple a b picks some given are = λ s u h. by_row s u h (request_a
         let serves : Serve s (record { request = r.id; tuple = t.id } ∷ []) (served_with r t s) = request_served s r t h.numbered (itself-request s id r is) (itself-tuple s tuple t f.there) f.passes only in
         let picked : record { request = r.id; tuple = t.id } ∷ [] ≡ picks = ap (λ (q : ℕ). record { request = q; tuple = t.id } ∷ []) same ∙ ap (λ (i : ℕ). record { request = id; tuple = i } ∷ []) f.is ∙ sym are in
         (served_with r t s, subst (λ (ps : List Pick). Serve s ps (served_with r t s)) picked serves, given s r t h is f.there)
+
+-- Which picks those are.
+
+pub picks-no-row : (a : Tables) → PicksFor NoRow a []
+picks-no-row a = λ s h. refl
+
+pub picks-no-tuple : (id : ℕ) (a : Tables) → row_of (λ t. t.id) id a.tuples.ahead ≡ None → PicksFor (ATuple id) a []
+picks-no-tuple id a none = λ s h. sym (ap (tuple_picks id s.clock s.requests) (tuple-there s a id None h none))
+
+of-live : (id : ℕ) (s : Plain) (e : Entry) (b : Bool) (o : Option ℕ) → tuple_at s id ≡ Some e → is_live s.clock e ≡ b → taker_for e s.requests ≡ o → (if b then picks_of id (readers_of e.value s.requests) ++ taker_picks id o else []) ≡ tuple_picks id s.clock s.requests (tuple_at s id)
+of-live id s e b o here live taker =
+    ap (λ (b : Bool). if b then picks_of id (readers_of e.value s.requests) ++ taker_picks id o else []) (sym live)
+    ∙ ap (λ (o : Option ℕ). if is_live s.clock e then picks_of id (readers_of e.value s.requests) ++ taker_picks id o else []) (sym taker)
+    ∙ ap (tuple_picks id s.clock s.requests) (sym here)
+
+pub picks-dead : (id : ℕ) (a : Tables) (e : Entry) → row_of (λ t. t.id) id a.tuples.ahead ≡ Some e → is_live a.clock e ≡ false → PicksFor (ATuple id) a []
+picks-dead id a e there dead = λ s h. of-live id s e false (taker_for e s.requests) (tuple-there s a id (Some e) h there) (subst (λ (now : ℕ). is_live now e ≡ false) h.clock dead) refl
+
+pub picks-read : (id : ℕ) (a b : Tables) (e : Entry) (picks : List Pick) → row_of (λ t. t.id) id a.tuples.ahead ≡ Some e → is_live a.clock e ≡ true → taker_for e a.requests.ahead ≡ None → ReadsWith id a b picks → PicksFor (ATuple id) a picks
+picks-read id a b e picks there live none reads = λ s h.
+    let here = tuple-there s a id (Some e) h there in
+    let read = reads s e h here in
+    read.0 ∙ sym (append-nil (picks_of id (readers_of e.value s.requests)))
+    ∙ of-live id s e true None here (subst (λ (now : ℕ). is_live now e ≡ true) h.clock live) (ap (taker_for e) (sym h.requests) ∙ none)
+
+pub picks-taken : (id request : ℕ) (a b : Tables) (e : Entry) (first picks : List Pick) → row_of (λ t. t.id) id a.tuples.ahead ≡ Some e → is_live a.clock e ≡ true → taker_for e a.requests.ahead ≡ Some request → ReadsWith id a b first → picks ≡ first ++ record { request = request; tuple = id } ∷ [] → PicksFor (ATuple id) a picks
+picks-taken id request a b e first picks there live some reads are = λ s h.
+    let here = tuple-there s a id (Some e) h there in
+    let read = reads s e h here in
+    are ∙ ap (λ (ps : List Pick). ps ++ record { request = request; tuple = id } ∷ []) read.0
+    ∙ of-live id s e true (Some request) here (subst (λ (now : ℕ). is_live now e ≡ true) h.clock live) (ap (taker_for e) (sym h.requests) ∙ some)
+
+match-there : (s : Plain) (a : Tables) (id : ℕ) (o : Option ℕ) → Holds s (ahead_of a) → match_of a.clock a.tuples.ahead (row_of (λ r. r.id) id a.requests.ahead) ≡ o → match_of s.clock s.tuples (request_at s id) ≡ o
+match-there s a id o h is =
+    ap (λ (now : ℕ). match_of now s.tuples (request_at s id)) (sym h.clock)
+    ∙ ap (λ (ts : List Entry). match_of a.clock ts (request_at s id)) (sym h.tuples)
+    ∙ ap (λ (rows : List Request). match_of a.clock a.tuples.ahead (row_of (λ r. r.id) id rows)) (sym h.requests) ∙ is
+
+pub picks-lone : (id : ℕ) (a : Tables) → match_of a.clock a.tuples.ahead (row_of (λ r. r.id) id a.requests.ahead) ≡ None → PicksFor (ARequest id) a []
+picks-lone id a none = λ s h. sym (ap (request_picks id) (match-there s a id None h none))
+
+pub picks-one : (id tuple : ℕ) (a : Tables) (picks : List Pick) → match_of a.clock a.tuples.ahead (row_of (λ r. r.id) id a.requests.ahead) ≡ Some tuple → picks ≡ record { request = id; tuple = tuple } ∷ [] → PicksFor (ARequest id) a picks
+picks-one id tuple a picks some are = λ s h. are ∙ sym (ap (request_picks id) (match-there s a id (Some tuple) h some))

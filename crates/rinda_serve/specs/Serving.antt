@@ -1,9 +1,9 @@
 -- What serves that which an event touched, over the tables of a space. docs/SPACE.md, Phases, Serve.
-use Rattle.std.specs.Prelude.{◌≡◌, ℕ, not, List, map, Option, Some, None, if◌then◌else◌}
+use Rattle.std.specs.Prelude.{◌≡◌, ℕ, not, List, [], ◌∷◌, ◌++◌, map, Option, Some, None, if◌then◌else◌}
 use Rattle.rinda_rules.specs.declared.turn.Pick.{Pick}
 use Rattle.rinda_rules.specs.declared.plain.Entry.{Entry}
 use Rattle.rinda_rules.specs.declared.plain.Request.{Request}
-use Rattle.rinda_rules.specs.Space.{Plain, tuple_at, request_at, is_free, is_read, is_waiting}
+use Rattle.rinda_rules.specs.Space.{Plain, tuple_at, request_at, is_free, is_live, is_read, is_waiting}
 use Rattle.rinda_rules.specs.Phases.{Serve}
 use Rattle.rinda_rules.specs.Cases.{read_by}
 use Rattle.rinda_effects.specs.Touches as effect
@@ -50,3 +50,34 @@ abbrev pub match_of : ℕ → List Entry → Option Request → Option ℕ
 match_of now tuples None = None
 match_of now tuples (Some r) =
     if is_waiting r then least_wanted now (not (is_read r.kind)) r.pattern tuples else None
+
+-- Which picks serve what was touched.
+
+-- the pick of the one who takes or holds the tuple, if there is one
+abbrev pub taker_picks : ℕ → Option ℕ → List Pick
+taker_picks tuple None = []
+taker_picks tuple (Some request) = record { request = request; tuple = tuple } ∷ []
+
+-- of a live tuple, those of all that wait to read it, in rising id, and then that of the first that waits to take or to
+-- hold it, where nobody holds it
+abbrev pub tuple_picks : ℕ → ℕ → List Request → Option Entry → List Pick
+tuple_picks id now requests None = []
+tuple_picks id now requests (Some t) =
+    if is_live now t
+    then picks_of id (readers_of t.value requests) ++ taker_picks id (taker_for t requests)
+    else []
+
+-- of a request, its least match
+abbrev pub request_picks : ℕ → Option ℕ → List Pick
+request_picks id None = []
+request_picks id (Some tuple) = record { request = id; tuple = tuple } ∷ []
+
+abbrev pub picks_for : effect.Touched → Plain → List Pick
+picks_for effect.NoRow s = []
+picks_for (effect.ATuple id) s = tuple_picks id s.clock s.requests (tuple_at s id)
+picks_for (effect.ARequest id) s =
+    request_picks id (match_of s.clock s.tuples (request_at s id))
+
+-- Where they held a space ahead, these are those picks.
+abbrev pub PicksFor : effect.Touched → Tables → List Pick → Type 0
+PicksFor touched old picks = (s : Plain) → Holds s (ahead_of old) → picks ≡ picks_for touched s

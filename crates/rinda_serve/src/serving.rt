@@ -3,7 +3,7 @@
 ghost use Rattle.std.specs.Prelude.{IfOk};
 ghost use Rattle.rinda_effects.specs.Touches.{ATuple, ARequest};
 ghost use Rattle.rinda_tables.specs.Tabled.{Stays};
-ghost use Rattle.rinda_serve.specs.Serving.{seen, Serves};
+ghost use Rattle.rinda_serve.specs.Serving.{seen, Serves, PicksFor};
 
 use crate::giving::{give_last, read_all};
 use crate::touched::Touched;
@@ -21,6 +21,7 @@ use std::alloc::{AllocError, Global};
 pub fn serve(tables: &mut Tables, alloc: Global, touched: Touched) -> Result<Vec<Pick>, AllocError>
     ensures served { IfOk result
         (λ picks. Serves (seen touched) tables.old tables.new picks.items) }
+    ensures picked { IfOk result (λ picks. PicksFor (seen touched) tables.old picks.items) }
     ensures stays { Stays tables.old tables.new }
 {
     match touched {
@@ -32,6 +33,7 @@ pub fn serve(tables: &mut Tables, alloc: Global, touched: Touched) -> Result<Vec
 
 fn serve_tuple(tables: &mut Tables, alloc: Global, id: u64) -> Result<Vec<Pick>, AllocError>
     ensures served { IfOk result (λ picks. Serves (ATuple id) tables.old tables.new picks.items) }
+    ensures picked { IfOk result (λ picks. PicksFor (ATuple id) tables.old picks.items) }
     ensures stays { Stays tables.old tables.new }
 {
     let Some(row) = tables.tuples.row(id) else {
@@ -51,6 +53,7 @@ fn serve_tuple(tables: &mut Tables, alloc: Global, id: u64) -> Result<Vec<Pick>,
 fn serve_request(tables: &mut Tables, alloc: Global, id: u64) -> Result<Vec<Pick>, AllocError>
     ensures served { IfOk result
         (λ picks. Serves (ARequest id) tables.old tables.new picks.items) }
+    ensures picked { IfOk result (λ picks. PicksFor (ARequest id) tables.old picks.items) }
     ensures stays { Stays tables.old tables.new }
 {
     match match_for(tables, id) {

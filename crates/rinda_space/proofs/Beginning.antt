@@ -3,7 +3,6 @@ use Rattle.std.proofs.Common.{◌≡◌, ◌∙◌, ℕ, ◌+◌, ◌<◌, true,
 use Rattle.std.specs.Prelude.{nat_lt}
 use Rattle.std.specs.List.{list_all}
 use Rattle.std.proofs.lemmas.Bool.Decides.{nat_tests}
-use Rattle.rinda_rules.specs.declared.turn.Turn.{Turn}
 use Rattle.rinda_rules.specs.declared.plain.Entry.{Entry}
 use Rattle.rinda_rules.specs.declared.plain.Notifier.{Notifier}
 use Rattle.rinda_rules.specs.declared.plain.Raised.{Raised}
@@ -11,14 +10,14 @@ use Rattle.rinda_rules.specs.declared.plain.Request.{Request}
 use Rattle.rinda_rules.specs.Rows.{numbered}
 use Rattle.rinda_rules.specs.Space.{Plain}
 use Rattle.rinda_rules.specs.Phases.{aged}
-use Rattle.rinda_rules.specs.Legal.{plain}
+use Rattle.rinda_rules.specs.Legal.{plain_from}
 use Rattle.rinda_notify.specs.Notes.{note_of}
 use Rattle.rinda_notify.specs.Tables.{below as notes_below}
 use Rattle.rinda_tables.specs.declared.tables.Tables.{Tables}
 use Rattle.rinda_tables.specs.Tabled.{list_of, Stays, Becomes, AddsNone, Fresh}
 use Rattle.rinda_tables.proofs.HoldingSame.{holds-same}
 use Rattle.rinda_tables.proofs.AgingOn.{aged-next}
-use Rattle.rinda_space.specs.Spaces.{IsSpace}
+use Rattle.rinda_space.specs.Spaces.{Spaced, IsSpace}
 use Rattle.rinda_space.specs.Begins.{Begun, KeepsList}
 
 pub keeps-list : (a b : Tables) → Stays a b → KeepsList a b
@@ -27,12 +26,12 @@ keeps-list a b k s h = holds-same s (list_of a) (list_of b) h k.stood_at k.stood
 pub keeps-on : (a b c : Tables) → KeepsList a b → KeepsList b c → KeepsList a c
 keeps-on a b c x y s h = y s (x s h)
 
-pub begun-of : (turns : List Turn) (t : Tables) → IsSpace turns t → Begun t
-begun-of turns t h = record {
-  stood = plain turns;
-  now = plain turns;
-  list = h.list;
-  ahead = h.ahead;
+pub begun-of : (v : Spaced) (room : ℕ) (changed : List ℕ) (t : Tables) → IsSpace v room changed t → Begun t
+begun-of v room changed t h = record {
+  stood = plain_from h.origin v.turns;
+  now = plain_from h.origin v.turns;
+  list = h.list h.origin h.starts;
+  ahead = h.ahead h.origin h.starts;
   next = refl;
   unadded = h.unadded;
 }
@@ -73,8 +72,8 @@ begun-fresh t h = record {
     stood-next = h.ahead.ids.next ∙ h.next
 
 -- the id that is given out next is a number
-pub space-room : (turns : List Turn) (t : Tables) → IsSpace turns t → length turns + 1 < 18446744073709551616 → t.ids.ahead.next < 18446744073709551616
-space-room turns t h l = rw h.ahead.ids.next (omega (arith, h.few, l))
+pub space-room : (v : Spaced) (room : ℕ) (changed : List ℕ) (t : Tables) → IsSpace v room changed t → length v.turns < room → t.ids.ahead.next < 18446744073709551616
+space-room v room changed t h l = rw (h.ahead h.origin h.starts).ids.next (omega (arith, h.ids h.origin h.starts, l))
 
 -- aging gives out no id
 pub aged-room : (a b : Tables) → Begun a → Becomes aged a b → a.ids.ahead.next < 18446744073709551616 → b.ids.ahead.next < 18446744073709551616

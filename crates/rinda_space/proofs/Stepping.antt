@@ -68,7 +68,7 @@ is-step s caller at e out (Some pick) picks mid new sound settled picked ends =
     by-event e it.0 it.1 picked ends
   where
     by-event : (x : Event) (id : ℕ) → x ≡ event.Submit id → IsPicked (found_by s at) caller x mid out (Some pick) → Ends (touched_by (found_by s at) x) (Some pick) mid new picks → IsStep s caller at x out picks new
-    by-event (event.Submit id) i is p ends = picked-step s caller at id out p.0 pick picks mid new sound settled p.1 p.2 p.3.0 p.3.1 ends
+    by-event (event.Submit id) i is p ends = picked-step s caller at id out p.0 pick picks mid new sound settled p.1 p.2 p.4.0 p.4.1 ends
     by-event (event.Write value lease) i is p ends = cc
     by-event (event.Reserve kind pattern lease) i is p ends = cc
     by-event (event.Collect id) i is p ends = cc

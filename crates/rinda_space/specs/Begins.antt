@@ -13,6 +13,7 @@ use Rattle.rinda_rules.specs.Sound.{Sound}
 use Rattle.rinda_effects.specs.Touches.{Touched}
 use Rattle.rinda_effects.specs.Unserved.{Unserved}
 use Rattle.rinda_tables.specs.declared.tables.Tables.{Tables}
+use Rattle.rinda_tables.specs.Changed.{NamesChanged}
 use Rattle.rinda_tables.specs.Holds.{Holds}
 use Rattle.rinda_tables.specs.Tabled.{ahead_of, list_of, Unadded}
 
@@ -49,11 +50,12 @@ Steps caller event old new out picks = (s : Plain) (at : ℕ) → Sound s → Se
     (s' : Plain) × Step s caller at event out picks s' × Holds s' (ahead_of new)
 
 -- The turn was made ahead, and the journal is ready for it: where the tables held a sound and settled space, the turn
--- is a step from there.
+-- is a step from there. What it changed is noted.
 pub record IsMade (caller at : ℕ) (event : Event) (turns : List Turn) (cap : ℕ)
-    (ready : List Turn) (old new : Tables) (out : Out) : Type 0 where
+    (ready : List Turn) (old new : Tables) (out : Out) (changed : List ℕ) : Type 0 where
   pub picks : List Pick
   pub prepared : ready ≡ turns ++ made caller at event out picks ∷ []
   pub room : length turns < cap
   pub steps : (s : Plain) → Sound s → Settled s → Holds s (ahead_of old) →
       (s' : Plain) × Step s caller at event out picks s' × Holds s' (ahead_of new)
+  pub names : NamesChanged new changed

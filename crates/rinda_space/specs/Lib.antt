@@ -1,2 +1,3 @@
 pub mod Spaces
 pub mod Begins
+pub mod Entered

@@ -7,6 +7,7 @@
 //! Read specs/Spaces.antt (what one turn comes to), `space`, then `making`, the phases of a turn, with specs/Begins.antt.
 #![tactic(auto)]
 
+mod machine;
 mod making;
 mod space;
 mod turned;

@@ -1,5 +1,5 @@
 -- What each change of the requests leaves, and what takes it back.
-use Rattle.std.proofs.Common.{◌≡◌, ◌∙◌, ℕ, Bool, true, false, List, [], ◌∷◌, ◌++◌, map, Option, Some, refl, sym, ap, arith}
+use Rattle.std.proofs.Common.{◌≡◌, ◌∙◌, ℕ, Bool, true, false, List, [], ◌∷◌, ◌++◌, map, length, Option, Some, refl, sym, ap, arith}
 use Rattle.std.specs.Prelude.{not, ◌&&◌, ◌||◌, ◌==◌, nat_lt, filter, if◌then◌else◌}
 use Rattle.std.specs.Option.{option_map}
 use Rattle.std.specs.List.{list_all, list_any}
@@ -114,22 +114,24 @@ there-changed [] id f rows keeps e = refl
 there-changed (g ∷ gone) id f rows keeps e = grind (arith, any-changed (λ r. r.id) g id f rows keeps, there-changed gone id f rows keeps)
 
 -- a change that leaves each state as it is
-pub requested-changed : (id : ℕ) (f : Request → Request) (gone : List ℕ) (rows : List Request) → ((r : Request) → (f r).id ≡ r.id) → ((r : Request) → (f r).state ≡ r.state) → IsRequested gone rows → IsRequested gone (changed (λ r. r.id) id f rows)
-requested-changed id f gone rows keeps stays h = record {
-  rise = rising-changed (λ r. r.id) id f rows keeps h.rise;
-  hidden = hidden-changed gone id f rows keeps (λ r a b c. ap is_reserved (stays r) ∙ b) h.hidden;
-  there = there-changed gone id f rows keeps h.there;
+pub requested-changed : (s : Step) (id : ℕ) (f g : Request → Request) (stands : ℕ) (steps : List Step) (gone : List ℕ) (rows : List Request) → Backs s id f g rows → ((r : Request) → (f r).state ≡ r.state) → IsRequested stands steps gone rows → IsRequested stands (steps ++ s ∷ []) gone (changed (λ r. r.id) id f rows)
+requested-changed s id f g stands steps gone rows k stays h = record {
+  rise = rising-changed (λ r. r.id) id f rows k.keeps h.rise;
+  hidden = hidden-changed gone id f rows k.keeps (λ r a b c. ap is_reserved (stays r) ∙ b) h.hidden;
+  there = there-changed gone id f rows k.keeps h.there;
+  counted = h.counted ∙ ap (λ (z : List Request). length z) (sym (undone-changed s id f g steps rows k h.rise));
 }
 
 no-both : (a : Bool) → a ≡ true → a ≡ false → (b : Bool) → b ≡ true
 no-both a e f b = cc
 
 -- a change of a request that is not gone
-pub requested-set : (id : ℕ) (f : Request → Request) (gone : List ℕ) (rows : List Request) → is_in gone id ≡ false → ((r : Request) → (f r).id ≡ r.id) → IsRequested gone rows → IsRequested gone (changed (λ r. r.id) id f rows)
-requested-set id f gone rows new keeps h = record {
-  rise = rising-changed (λ r. r.id) id f rows keeps h.rise;
-  hidden = hidden-changed gone id f rows keeps (λ r a b c. no-both (is_in gone id) (sym (ap (is_in gone) c) ∙ a) new (is_reserved (f r).state)) h.hidden;
-  there = there-changed gone id f rows keeps h.there;
+pub requested-set : (s : Step) (id : ℕ) (f g : Request → Request) (stands : ℕ) (steps : List Step) (gone : List ℕ) (rows : List Request) → Backs s id f g rows → is_in gone id ≡ false → IsRequested stands steps gone rows → IsRequested stands (steps ++ s ∷ []) gone (changed (λ r. r.id) id f rows)
+requested-set s id f g stands steps gone rows k new h = record {
+  rise = rising-changed (λ r. r.id) id f rows k.keeps h.rise;
+  hidden = hidden-changed gone id f rows k.keeps (λ r a b c. no-both (is_in gone id) (sym (ap (is_in gone) c) ∙ a) new (is_reserved (f r).state)) h.hidden;
+  there = there-changed gone id f rows k.keeps h.there;
+  counted = h.counted ∙ ap (λ (z : List Request). length z) (sym (undone-changed s id f g steps rows k h.rise));
 }
 
 -- Taking out.
@@ -146,11 +148,12 @@ pub any_there : (id : ℕ) (rows : List Request) (r : Request) → row_of (λ r.
 any_there id [] r e = cc
 any_there id (x ∷ rows) r e = grind (arith, nat_tests, any_there id rows r)
 
-pub requested-taken : (id : ℕ) (gone : List ℕ) (rows : List Request) → list_any (λ r. r.id == id) rows ≡ true → IsRequested gone rows → IsRequested (gone ++ id ∷ []) (changed (λ r. r.id) id (in_state Reserved) rows)
-requested-taken id gone rows some h = record {
+pub requested-taken : (id stands : ℕ) (steps : List Step) (gone : List ℕ) (rows : List Request) → list_any (λ r. r.id == id) rows ≡ true → IsRequested stands steps gone rows → IsRequested stands (steps ++ step.State id (state_or Reserved (found id rows)) ∷ []) (gone ++ id ∷ []) (changed (λ r. r.id) id (in_state Reserved) rows)
+requested-taken id stands steps gone rows some h = record {
   rise = rising-changed (λ r. r.id) id (in_state Reserved) rows (λ r. refl) h.rise;
   hidden = hidden-more gone id rows h.hidden;
   there = there-changed (gone ++ id ∷ []) id (in_state Reserved) rows (λ r. refl) (there-more gone id rows h.there some);
+  counted = h.counted ∙ ap (λ (z : List Request). length z) (sym (undone-changed _ id (in_state Reserved) _ steps rows (backs-set id Reserved rows) h.rise));
 }
 
 -- Adding.
@@ -192,19 +195,20 @@ there-new : (gone : List ℕ) (rows : List Request) (r : Request) → are_there 
 there-new [] rows r e = refl
 there-new (g ∷ gone) rows r e = grind (arith, any-append g rows (r ∷ []), there-new gone rows r)
 
-pub requested-added : (gone : List ℕ) (rows : List Request) (r : Request) → below (λ r. r.id) r.id rows ≡ true → IsRequested gone rows → IsRequested gone (rows ++ r ∷ [])
-requested-added gone rows r low h = record {
-  rise = rising-last (λ r. r.id) rows r h.rise low;
-  hidden = hidden-new gone rows r (new-id r.id gone rows low h.there) h.hidden;
-  there = there-new gone rows r h.there;
-}
-
 pub undone-added : (steps : List Step) (rows : List Request) (r : Request) → below (λ r. r.id) r.id rows ≡ true → undone (steps ++ step.Added r.id ∷ []) (rows ++ r ∷ []) ≡ undone steps rows
 undone-added steps rows r low = undone-append steps (step.Added r.id ∷ []) (rows ++ r ∷ []) ∙ ap (undone steps) (without-last (λ r. r.id) rows r low)
 
+pub requested-added : (stands : ℕ) (steps : List Step) (gone : List ℕ) (rows : List Request) (r : Request) → below (λ r. r.id) r.id rows ≡ true → IsRequested stands steps gone rows → IsRequested stands (steps ++ step.Added r.id ∷ []) gone (rows ++ r ∷ [])
+requested-added stands steps gone rows r low h = record {
+  rise = rising-last (λ r. r.id) rows r h.rise low;
+  hidden = hidden-new gone rows r (new-id r.id gone rows low h.there) h.hidden;
+  there = there-new gone rows r h.there;
+  counted = h.counted ∙ ap (λ (z : List Request). length z) (sym (undone-added steps rows r low));
+}
+
 -- Searching.
 
-never-parked : (state : RequestState) → is_reserved state ≡ true → is_parked state ≡ false
+pub never-parked : (state : RequestState) → is_reserved state ≡ true → is_parked state ≡ false
 never-parked Reserved e = refl
 never-parked Parked e = cc
 never-parked (Granted tuple) e = cc
@@ -230,8 +234,8 @@ none-hidden : (rows : List Request) → are_hidden [] rows ≡ true
 none-hidden [] = refl
 none-hidden (r ∷ rows) = none-hidden rows
 
-pub requested-settled : (rows : List Request) → rising (λ r. r.id) rows ≡ true → IsRequested [] rows
-requested-settled rows up = record { rise = up; hidden = none-hidden rows; there = refl }
+pub requested-settled : (rows : List Request) (stands : ℕ) → stands ≡ length rows → rising (λ r. r.id) rows ≡ true → IsRequested stands [] [] rows
+requested-settled rows stands count up = record { rise = up; hidden = none-hidden rows; there = refl; counted = count }
 
 pub view-settled : (rows list : List Request) → rows ≡ list → record { list = rows; ahead = left (λ r. r.id) [] rows; added = false } ≡ settled list
 view-settled rows list e = ap (λ (z : List Request). record { list = rows; ahead = z; added = false }) (left-none (λ r. r.id) rows) ∙ ap settled e
@@ -339,9 +343,10 @@ there-shut : (gone : List ℕ) (rows : List Request) → are_there gone rows ≡
 there-shut [] rows e = refl
 there-shut (g ∷ gone) rows e = grind (arith, any-shut g rows, there-shut gone rows)
 
-pub requested-shut : (gone : List ℕ) (rows : List Request) → IsRequested gone rows → IsRequested gone (map shut_request rows)
-requested-shut gone rows h = record {
+pub requested-shut : (stands : ℕ) (steps steps' : List Step) (gone : List ℕ) (rows : List Request) → undone steps' (map shut_request rows) ≡ undone steps rows → IsRequested stands steps gone rows → IsRequested stands steps' gone (map shut_request rows)
+requested-shut stands steps steps' gone rows back h = record {
   rise = rising-map (λ r. r.id) shut_request rows shut-keeps h.rise;
   hidden = hidden-shut gone rows h.hidden;
   there = there-shut gone rows h.there;
+  counted = h.counted ∙ ap (λ (z : List Request). length z) (sym back);
 }

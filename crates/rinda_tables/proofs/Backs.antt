@@ -1,5 +1,5 @@
 -- What each change of the tuples leaves, and what takes it back.
-use Rattle.std.proofs.Common.{◌≡◌, ◌∙◌, ℕ, Bool, true, false, List, [], ◌∷◌, ◌++◌, map, Option, Some, None, refl, sym, ap, arith}
+use Rattle.std.proofs.Common.{◌≡◌, ◌∙◌, ℕ, Bool, true, false, List, [], ◌∷◌, ◌++◌, map, length, Option, Some, None, refl, sym, ap, arith}
 use Rattle.std.specs.Prelude.{not, ◌||◌, ◌==◌}
 use Rattle.std.specs.Option.{option_map}
 use Rattle.rinda_rules.proofs.Lists.{rising-filter}
@@ -62,11 +62,12 @@ there-changed : (gone : List ℕ) (id : ℕ) (f : Entry → Entry) (rows : List 
 there-changed [] id f rows k e = refl
 there-changed (g ∷ gone) id f rows k e = grind (arith, any-changed (λ t. t.id) g id f rows k.id, there-changed gone id f rows k)
 
-pub tupled-changed : (id : ℕ) (f : Entry → Entry) (steps steps' : List Step) (gone : List ℕ) (rows : List Entry) → Changes f → IsTupled steps gone rows → IsTupled steps' gone (changed (λ t. t.id) id f rows)
-tupled-changed id f steps steps' gone rows k h = record {
+pub tupled-changed : (id : ℕ) (f : Entry → Entry) (steps : List Step) (stands : ℕ) (gone : List ℕ) (rows : List Entry) → Changes f → IsTupled stands steps gone rows → IsTupled stands (noted id (row_of (λ t. t.id) id rows) steps) gone (changed (λ t. t.id) id f rows)
+tupled-changed id f steps stands gone rows k h = record {
   rise = rising-changed (λ t. t.id) id f rows k.id h.rise;
   marked = marked-changed gone id f rows k h.marked;
   there = there-changed gone id f rows k h.there;
+  counted = h.counted ∙ ap (λ (z : List Entry). length z) (sym (noted-changed id f steps rows (row_of (λ t. t.id) id rows) k h.rise refl));
 }
 
 -- The changes of the rules.
@@ -103,11 +104,12 @@ pub any_there : (id : ℕ) (rows : List Entry) (t : Entry) → row_of (λ t. t.i
 any_there id [] t e = cc
 any_there id (x ∷ rows) t e = grind (arith, nat_tests, any_there id rows t)
 
-pub tupled-taken : (id : ℕ) (steps steps' : List Step) (gone : List ℕ) (rows : List Entry) → list_any (λ t. t.id == id) rows ≡ true → IsTupled steps gone rows → IsTupled steps' (gone ++ id ∷ []) (changed (λ t. t.id) id marked rows)
-tupled-taken id steps steps' gone rows some h = record {
+pub tupled-taken : (id : ℕ) (steps : List Step) (stands : ℕ) (gone : List ℕ) (rows : List Entry) → list_any (λ t. t.id == id) rows ≡ true → IsTupled stands steps gone rows → IsTupled stands (noted id (row_of (λ t. t.id) id rows) steps) (gone ++ id ∷ []) (changed (λ t. t.id) id marked rows)
+tupled-taken id steps stands gone rows some h = record {
   rise = rising-changed (λ t. t.id) id marked rows (λ t. refl) h.rise;
   marked = marked-more gone id rows h.marked;
   there = there-changed (gone ++ id ∷ []) id marked rows changes-mark (there-more gone id rows h.there some);
+  counted = h.counted ∙ ap (λ (z : List Entry). length z) (sym (noted-changed id marked steps rows (row_of (λ t. t.id) id rows) changes-mark h.rise refl));
 }
 
 -- Adding.
@@ -149,15 +151,16 @@ there-new : (gone : List ℕ) (rows : List Entry) (t : Entry) → list_all (λ q
 there-new [] rows t e = refl
 there-new (g ∷ gone) rows t e = grind (arith, any-append g rows (t ∷ []), there-new gone rows t)
 
-pub tupled-added : (steps steps' : List Step) (gone : List ℕ) (rows : List Entry) (t : Entry) → below (λ t. t.id) t.id rows ≡ true → IsTupled steps gone rows → IsTupled steps' gone (rows ++ t ∷ [])
-tupled-added steps steps' gone rows t low h = record {
+pub undone-added : (steps : List Step) (rows : List Entry) (t : Entry) → below (λ t. t.id) t.id rows ≡ true → undone (steps ++ step.Added t.id ∷ []) (rows ++ t ∷ []) ≡ undone steps rows
+undone-added steps rows t low = undone-append steps (step.Added t.id ∷ []) (rows ++ t ∷ []) ∙ ap (λ (z : List Entry). undone steps z) (without-last (λ t. t.id) rows t low)
+
+pub tupled-added : (steps : List Step) (stands : ℕ) (gone : List ℕ) (rows : List Entry) (t : Entry) → below (λ t. t.id) t.id rows ≡ true → IsTupled stands steps gone rows → IsTupled stands (steps ++ step.Added t.id ∷ []) gone (rows ++ t ∷ [])
+tupled-added steps stands gone rows t low h = record {
   rise = rising-last (λ t. t.id) rows t h.rise low;
   marked = marked-new gone rows t (new-id t.id gone rows low h.there) h.marked;
   there = there-new gone rows t h.there;
+  counted = h.counted ∙ ap (λ (z : List Entry). length z) (sym (undone-added steps rows t low));
 }
-
-pub undone-added : (steps : List Step) (rows : List Entry) (t : Entry) → below (λ t. t.id) t.id rows ≡ true → undone (steps ++ step.Added t.id ∷ []) (rows ++ t ∷ []) ≡ undone steps rows
-undone-added steps rows t low = undone-append steps (step.Added t.id ∷ []) (rows ++ t ∷ []) ∙ ap (λ (z : List Entry). undone steps z) (without-last (λ t. t.id) rows t low)
 
 -- Searching.
 
@@ -177,8 +180,8 @@ none-marked : (rows : List Entry) → are_marked [] rows ≡ true
 none-marked [] = refl
 none-marked (t ∷ rows) = none-marked rows
 
-pub tupled-settled : (rows : List Entry) → rising (λ t. t.id) rows ≡ true → IsTupled [] [] rows
-tupled-settled rows up = record { rise = up; marked = none-marked rows; there = refl }
+pub tupled-settled : (rows : List Entry) (stands : ℕ) → stands ≡ length rows → rising (λ t. t.id) rows ≡ true → IsTupled stands [] [] rows
+tupled-settled rows stands count up = record { rise = up; marked = none-marked rows; there = refl; counted = count }
 
 pub view-settled : (rows list : List Entry) → rows ≡ list → record { list = rows; ahead = left (λ t. t.id) [] rows; added = false } ≡ settled list
 view-settled rows list e = ap (λ (z : List Entry). record { list = rows; ahead = z; added = false }) (left-none (λ t. t.id) rows) ∙ ap settled e

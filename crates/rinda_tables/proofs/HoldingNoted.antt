@@ -53,7 +53,7 @@ abbrev pub closed-stage : Option Note → Stage
 closed-stage None = stage.Still
 closed-stage (Some n) = stage_by n.doubt false n.deadline
 
-open-runs : (st : Hearing) → is_open (closed_as st) ≡ is_running st
+pub open-runs : (st : Hearing) → is_open (closed_as st) ≡ is_running st
 open-runs hearing.Running = refl
 open-runs (hearing.Closed last until) = refl
 

@@ -14,3 +14,6 @@ pub mod AgingAll
 pub mod AgingOn
 pub mod HoldingPopped
 pub mod HoldingShut
+pub mod Leaving
+pub mod Started
+pub mod Beginning

@@ -1,6 +1,6 @@
 -- Requests as they stand and as the turn under way has made them, and the steps that lead back.
-use Rattle.std.specs.Prelude.{◌≡◌, ℕ, Bool, true, false, not, ◌||◌, ◌==◌, List, [], ◌∷◌, Option, Some, None}
-use Rattle.std.specs.List.{list_all, list_any}
+use Rattle.std.specs.Prelude.{◌≡◌, ℕ, Bool, true, false, not, ◌||◌, ◌==◌, List, [], ◌∷◌, length, Option, Some, None, if◌then◌else◌}
+use Rattle.std.specs.List.{list_all, list_any, filter_map}
 use Rattle.rinda_rules.specs.declared.object.Doubt.{Doubt}
 use Rattle.rinda_rules.specs.declared.object.Doubt.TheVariants as doubt
 use Rattle.rinda_rules.specs.declared.plain.Request.{Request}
@@ -49,6 +49,14 @@ adds _ = false
 abbrev pub any_added : List Step → Bool
 any_added steps = list_any adds steps
 
+-- the request that was parked before that step, and left that state by it
+abbrev pub left_by : Step → Option ℕ
+left_by (step.State id state) = if is_parked state then Some id else None
+left_by _ = None
+
+abbrev pub left_ids : List Step → List ℕ
+left_ids steps = filter_map left_by steps
+
 -- who is gone is not parked, so that no search finds it
 abbrev pub are_hidden : List ℕ → List Request → Bool
 are_hidden gone rows = list_all (λ r. not (is_in gone r.id) || is_reserved r.state) rows
@@ -57,10 +65,13 @@ are_hidden gone rows = list_all (λ r. not (is_in gone r.id) || is_reserved r.st
 abbrev pub are_there : List ℕ → List Request → Bool
 are_there gone rows = list_all (λ id. list_any (λ r. r.id == id) rows) gone
 
-pub record IsRequested (gone : List ℕ) (rows : List Request) : Type 0 where
+-- the requests with who is gone, how many of them stand, and the steps that lead back to those
+pub record IsRequested (stands : ℕ) (steps : List Step) (gone : List ℕ)
+    (rows : List Request) : Type 0 where
   pub rise : rising (λ r. r.id) rows ≡ true
   pub hidden : are_hidden gone rows ≡ true
   pub there : are_there gone rows ≡ true
+  pub counted : stands ≡ length (undone steps rows)
 
 -- How a request stands, if there is one.
 

@@ -4,3 +4,5 @@ pub mod Deadlines
 pub mod Holds
 pub mod Tabled
 pub mod Dues
+pub mod Changed
+pub mod Starting

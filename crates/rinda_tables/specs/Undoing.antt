@@ -1,5 +1,5 @@
 -- A table as it stands and as the turn under way has made it, and the steps that lead back.
-use Rattle.std.specs.Prelude.{◌≡◌, ℕ, Bool, true, false, not, ◌||◌, ◌==◌, nat_lt, List, [], ◌∷◌, ◌++◌, filter, Option, Some, None}
+use Rattle.std.specs.Prelude.{◌≡◌, ℕ, Bool, true, false, not, ◌||◌, ◌==◌, nat_lt, List, [], ◌∷◌, ◌++◌, filter, length, Option, Some, None}
 use Rattle.std.specs.List.{list_all, list_any}
 use Rattle.rinda_rules.specs.declared.plain.Entry.{Entry}
 use Rattle.rinda_rules.specs.Rows.{changed, without, rising}
@@ -72,7 +72,10 @@ pub record Keeps (old new : Tupled) : Type 0 where
   pub list : new.list ≡ old.list
   pub added : new.added ≡ old.added
 
-pub record IsTupled (steps : List Step) (gone : List ℕ) (rows : List Entry) : Type 0 where
+-- the rows with who is gone, how many of them stand, and the steps that lead back to those
+pub record IsTupled (stands : ℕ) (steps : List Step) (gone : List ℕ)
+    (rows : List Entry) : Type 0 where
   pub rise : rising (λ t. t.id) rows ≡ true
   pub marked : are_marked gone rows ≡ true
   pub there : list_all (λ id. list_any (λ t. t.id == id) rows) gone ≡ true
+  pub counted : stands ≡ length (undone steps rows)

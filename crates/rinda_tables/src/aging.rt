@@ -17,7 +17,7 @@ use std::alloc::{AllocError, Global};
 impl Tables {
     /// Each row that is due ages, in rising id.
     ///
-    /// Errors: only want of memory.
+    /// Errors: only want of memory; what is ahead may then be changed in part, and what stands is as it was.
     /// Source: docs/SPACE.md, Phases, Age.
     pub fn age(&mut self, alloc: Global) -> Result<(), AllocError>
         ensures becomes { OnOk result (Becomes aged self.old self.new) }
@@ -43,7 +43,7 @@ impl Tables {
     /// The row with that id ages where it is due: with a renewer it is doubted; without, a tuple ends and is raised as
     /// deleted, a request is answered Expired, and a notifier is closed.
     ///
-    /// Errors: only want of memory.
+    /// Errors: only want of memory; what is ahead may then be changed in part, and what stands is as it was.
     /// Source: docs/SPACE.md, Phases, Age.
     pub fn age_at(&mut self, alloc: Global, id: u64) -> Result<(), AllocError>
         ensures becomes { OnOk result

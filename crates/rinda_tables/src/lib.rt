@@ -6,13 +6,16 @@
 //!
 //! `Tables` has all of them, and the small steps of which a turn is made: where the tables held a space of the rules ahead,
 //! they then hold what the rules make of it; and two whole phases, time that goes on and aging. `rinda_cases` and
-//! `rinda_serve` make the others of these steps, and `rinda_space` whole turns. Read specs/Holds.antt (what tables hold), then
-//! `tuples`, `requests` and `deadlines`, `tables`, and `aging`.
+//! `rinda_serve` make the others of these steps, and `rinda_space` whole turns. Tables may also start from stored rows: they
+//! then hold the space that these stand for. Read specs/Holds.antt (what tables hold), then `tuples`, `requests` and
+//! `deadlines`, `tables`, `aging`, and `starting`.
 #![tactic(auto)]
 
 mod aging;
 mod deadlines;
+pub mod laws;
 mod requests;
+mod starting;
 mod tables;
 mod tuples;
 

@@ -7,7 +7,8 @@ ghost use Rattle.rinda_rules.specs.Phases.{in_state, doubt_request};
 ghost use Rattle.rinda_rules.specs.Cases.{renewed_request, shut_request};
 ghost use Rattle.rinda_wait.specs.Waiting.{canceled, asked, readers_of, taker_of};
 ghost use Rattle.rinda_tables.specs.Undoing.{is_in, left, below};
-ghost use Rattle.rinda_tables.specs.Asking.{settled, undo as undo_spec, undone, any_added, changed_each, deadline_of, mark_of, doubt_of, reserved_in, parked_in, Keeps};
+ghost use Rattle.rinda_tables.specs.Asking.{settled, undo as undo_spec, undone, any_added, changed_each, deadline_of, mark_of, doubt_of, reserved_in, parked_in, left_by as left_by_spec, left_ids as left_ids_spec, Keeps};
+ghost use Rattle.rinda_tables.specs.Changed.{NamesLeft};
 
 use drb_tree::Remote;
 use rinda_marks::Secret;
@@ -42,6 +43,7 @@ pub struct Requests {
     waits: Waits,
     gone: Vec<u64>,
     steps: Vec<Step>,
+    stands: u64,
 }
 
 impl Model for Requests {
@@ -60,7 +62,7 @@ impl Model for Requests {
       added = any_added t.steps.items;
     } };
 
-    ghost invariant = { λ t. IsRequested t.gone.items t.waits };
+    ghost invariant = { λ t. IsRequested t.stands t.steps.items t.gone.items t.waits };
 }
 
 impl Requests {
@@ -72,7 +74,15 @@ impl Requests {
             waits: Waits::new(alloc, secret),
             gone: Vec::new(alloc),
             steps: Vec::new(alloc),
+            stands: 0,
         }
+    }
+
+    /// How many requests stand.
+    pub fn len(&self) -> u64
+        ensures { result ≡ length self.now.list }
+    {
+        self.stands
     }
 
     /// The request with that id, ahead.
@@ -102,6 +112,18 @@ impl Requests {
         ensures { result ≡ taker_of tuple.now self.now.ahead }
     {
         self.waits.taker(tuple)
+    }
+
+    /// The ids, in any order, of the requests that are parked in what stands and, ahead, aren't parked or are gone. It may
+    /// name others.
+    ///
+    /// It goes over the changes that were made ahead, however many requests there are.
+    /// Errors: only want of memory.
+    /// Source: docs/SPACE.md, Changed.
+    pub fn changes(&self, alloc: Global) -> Result<Vec<u64>, AllocError>
+        ensures { IfOk result (λ ids. NamesLeft self.now ids.items) }
+    {
+        left_ids(alloc, &self.steps)
     }
 
     /// Adds a request, whose id is above all that ever were. A turn adds one at most.
@@ -271,6 +293,7 @@ impl Requests {
     {
         sweep(&mut self.waits, &mut self.gone);
         self.steps.clear();
+        self.stands = self.waits.len();
     }
 
     /// What is ahead of what stands is taken back. Takes no memory.
@@ -287,6 +310,30 @@ fn is_gone(gone: &Vec<u64>, id: u64) -> bool
     ensures { result ≡ is_in gone.now.items id }
 {
     gone.iter().any(|i| *i == id)
+}
+
+/// The ids of the requests that left the parked state by these steps.
+///
+/// Errors: only want of memory.
+fn left_ids(alloc: Global, steps: &Vec<Step>) -> Result<Vec<u64>, AllocError>
+    ensures { IfOk result (λ ids. ids.items ≡ left_ids_spec steps.now.items) }
+{
+    let mut ids = Vec::new(alloc);
+    for step in steps.iter() {
+        if let Some(id) = left_by(step) {
+            ids.push(id)?;
+        }
+    }
+    Ok(ids)
+}
+
+fn left_by(step: &Step) -> Option<u64>
+    ensures { result ≡ left_by_spec step.now }
+{
+    match step {
+        Step::State(id, RequestState::Parked) => Some(*id),
+        _ => None,
+    }
 }
 
 /// The deadline of the request with that id.

@@ -10,6 +10,7 @@ ghost use Rattle.rinda_bag.specs.Changes.{let_go, marked, asked as asked_tuple};
 ghost use Rattle.rinda_wait.specs.Waiting.{canceled, asked as asked_request};
 ghost use Rattle.rinda_tables.specs.Holds.{Holds};
 ghost use Rattle.rinda_tables.specs.Tabled.{ahead_of, list_of, Stays, Settles, Becomes, BecomesBy, BecomesFor, BecomesOf, Fresh, AddsNone, Unadded, Mints, Pops, with_new_tuple, with_new_request, with_new_notifier, with_passed_tuple, asked_notifier, last_in};
+ghost use Rattle.rinda_tables.specs.Changed.{NamesChanged};
 ghost use Rattle.rinda_tables.specs.Deadlines.{ahead_at, list_at, rested, tuple_in};
 ghost use Rattle.rinda_lease.specs.Stages.{is_in};
 ghost use Rattle.rinda_rules.specs.declared.plain.Entry.{Entry};
@@ -71,6 +72,22 @@ impl Tables {
         self.clock = self.clock.max(at);
     }
 
+    /// The ids, in any order, of what the turn under way has changed for those who wait: of each request that is parked
+    /// in what stands and, ahead, isn't parked or is gone; and of each notifier that runs in what stands and, ahead, is
+    /// closed or gone or has more events in its queue. It may name others, and one twice.
+    ///
+    /// It goes over the changes of the turn, however many rows there are.
+    /// Errors: only want of memory.
+    /// Source: docs/SPACE.md, Changed.
+    pub fn changes(&self, alloc: Global) -> Result<Vec<u64>, AllocError>
+        ensures changed { IfOk result (λ ids. NamesChanged self.now ids.items) }
+    {
+        let mut ids = self.requests.changes(alloc)?;
+        let heard = self.notes.changes(alloc)?;
+        ids.extend_from_slice(heard.as_slice())?;
+        Ok(ids)
+    }
+
     /// What is ahead stands. Takes no memory.
     pub fn commit(&mut self)
         ensures settles { Settles (ahead_of self.old) self.new }
@@ -101,7 +118,8 @@ impl Tables {
 
     /// Adds a tuple, and answers its id. A turn adds one row at most, and fewer than 2^64 - 1 ids may have been given out.
     ///
-    /// Errors: only want of memory; the tuple is dropped.
+    /// Errors: only want of memory; the tuple is dropped, what is ahead may then be changed in part, and what stands is as
+    /// it was.
     pub fn add_tuple(
         &mut self,
         value: Tuple,
@@ -139,7 +157,8 @@ impl Tables {
     /// Adds a request that is reserved, and answers its id. A turn adds one row at most, and fewer than 2^64 - 1 ids may
     /// have been given out.
     ///
-    /// Errors: only want of memory; the request is dropped.
+    /// Errors: only want of memory; the request is dropped, what is ahead may then be changed in part, and what stands is as
+    /// it was.
     pub fn add_request(
         &mut self,
         caller: u64,
@@ -181,7 +200,8 @@ impl Tables {
     /// Adds a notifier that hears what is raised from then on, and answers its id. A turn adds one row at most, and fewer
     /// than 2^64 - 1 ids may have been given out.
     ///
-    /// Errors: only want of memory; the notifier is dropped.
+    /// Errors: only want of memory; the notifier is dropped, what is ahead may then be changed in part, and what stands is as
+    /// it was.
     pub fn add_note(
         &mut self,
         alloc: Global,
@@ -471,7 +491,7 @@ impl Tables {
 
     /// This happened to a tuple: the event comes to the queue of each notifier that runs and hears it.
     ///
-    /// Errors: only want of memory.
+    /// Errors: only want of memory; what is ahead may then be changed in part, and what stands is as it was.
     /// Source: docs/SPACE.md, Queues.
     pub fn raise(&mut self, alloc: Global, what: Happening, value: &Tuple) -> Result<(), AllocError>
         ensures becomes { OnOk result ((t : Entry) → t.value ≡ value.now →
@@ -484,7 +504,7 @@ impl Tables {
     /// Gives an id to a tuple whose time is over as it is written: it has expired. A turn gives out one id at most, and
     /// fewer than 2^64 - 1 may have been given out.
     ///
-    /// Errors: only want of memory.
+    /// Errors: only want of memory; what is ahead may then be changed in part, and what stands is as it was.
     pub fn pass_tuple(&mut self) -> Result<u64, AllocError>
         requires room { self.old.ids.ahead.next < 2 ^ 64 }
         requires fresh { Fresh self.old }
@@ -499,7 +519,7 @@ impl Tables {
     /// Takes the next event off the queue of the notifier: `Empty` where it runs and its queue is empty, or there is
     /// none; `Closed` where it was closed and its queue is empty; it has then ended as it was closed.
     ///
-    /// Errors: only want of memory.
+    /// Errors: only want of memory; what is ahead may then be changed in part, and what stands is as it was.
     /// Source: docs/SPACE.md, Cases, Pop.
     pub fn pop(&mut self, alloc: Global, id: u64) -> Result<Popped, AllocError>
         ensures pops { IfOk result (λ popped. Pops id popped self.old self.new) }
@@ -523,7 +543,7 @@ impl Tables {
     /// Each reserved request is marked, each parked one is answered Canceled, each running notifier is closed, and the
     /// space is shut.
     ///
-    /// Errors: only want of memory.
+    /// Errors: only want of memory; what is ahead may then be changed in part, and what stands is as it was.
     /// Source: docs/SPACE.md, Cases, Shut.
     pub fn shut_down(&mut self, alloc: Global) -> Result<(), AllocError>
         ensures becomes { OnOk result (Becomes shut_down self.old self.new) }

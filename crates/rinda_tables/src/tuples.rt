@@ -34,6 +34,7 @@ pub struct Tuples {
     bag: Bag,
     gone: Vec<u64>,
     steps: Vec<Step>,
+    stands: u64,
 }
 
 impl Model for Tuples {
@@ -51,7 +52,7 @@ impl Model for Tuples {
       added = any_added t.steps.items;
     } };
 
-    ghost invariant = { λ t. IsTupled t.steps.items t.gone.items t.bag };
+    ghost invariant = { λ t. IsTupled t.stands t.steps.items t.gone.items t.bag };
 }
 
 impl Tuples {
@@ -63,7 +64,15 @@ impl Tuples {
             bag: Bag::new(alloc, secret),
             gone: Vec::new(alloc),
             steps: Vec::new(alloc),
+            stands: 0,
         }
+    }
+
+    /// How many rows stand.
+    pub fn len(&self) -> u64
+        ensures { result ≡ length self.now.list }
+    {
+        self.stands
     }
 
     /// The row with that id, ahead.
@@ -242,6 +251,7 @@ impl Tuples {
     {
         sweep(&mut self.bag, &mut self.gone);
         self.steps.clear();
+        self.stands = self.bag.len();
     }
 
     /// What is ahead of what stands is taken back. Takes no memory.

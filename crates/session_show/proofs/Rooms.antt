@@ -7,8 +7,8 @@ use Rattle.rinda_rules.specs.declared.event.Event.TheVariants.{Collect, Pop}
 use Rattle.rinda_rules.specs.Space.{Plain, IsUnknown, IsRecycled, opening}
 use Rattle.rinda_rules.specs.Legal.{plain_from}
 use Rattle.rinda_rules.specs.Nothing.{is_nothing, finds_nothing, waits_for, hears_nothing}
-use Rattle.drb_session.specs.declared.turns.Turned.{Turned}
-use Rattle.drb_session.specs.declared.turns.TurnError.{TurnError}
+use Rattle.rinda_space.specs.declared.turned.Turned.{Turned}
+use Rattle.rinda_space.specs.declared.turned.TurnError.{TurnError}
 use Rattle.drb_session.specs.Passes.{Lawful, FindsSomething, FindsNothing, Tries}
 use Rattle.drb_session.proofs.Small.{sees_same}
 use Rattle.session_show.specs.Roomless.{roomless, is_idle, tried}

@@ -4,10 +4,10 @@ use Rattle.std.specs.declared.result.Result.{Result}
 use Rattle.rinda_rules.specs.declared.event.Event.{Event}
 use Rattle.rinda_rules.specs.declared.event.Event.TheVariants.{NextAsk, Tick}
 use Rattle.drb_session.specs.Passes.{Pass}
-use Rattle.drb_session.specs.declared.turns.Turned.{Turned}
-use Rattle.drb_session.specs.declared.turns.Turned.TheVariants.{Nothing}
-use Rattle.drb_session.specs.declared.turns.TurnError.{TurnError}
-use Rattle.drb_session.specs.declared.turns.TurnError.TheVariants.{Full}
+use Rattle.rinda_space.specs.declared.turned.Turned.{Turned}
+use Rattle.rinda_space.specs.declared.turned.Turned.TheVariants.{Nothing}
+use Rattle.rinda_space.specs.declared.turned.TurnError.{TurnError}
+use Rattle.rinda_space.specs.declared.turned.TurnError.TheVariants.{Full}
 
 -- what its one caller knows: there is no turn, and there may be none
 abbrev pub roomless : Pass

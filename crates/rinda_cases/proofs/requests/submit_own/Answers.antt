@@ -16,7 +16,7 @@ returns-in_ok-out-in-Some-least_match-clause-submits c = λ s r h there.
     let is : is_reserved row.state ≡ true = grind (arith, c.is_reserved.ensures, c.if-not-is_reserved.false) in
     let least = least-held s old row r (Some tuple) h same c.in-Some-least_match.ensures in
     let found = least-some s r tuple h.numbered.tuples least in
-    submitted-some s r c.args.id tuple found.0 c.submit_matched.new.tables c.in_ok-out-in-Some-least_match.out (its-id s c.args.id r there) (ap (λ (x : Request). is_reserved x.state) (sym same) ∙ is) found.1 (c.in_ok-out-in-Some-least_match.ensures.serves s r found.0 h there found.1.there)
+    submitted-some s r c.args.id tuple found.0 c.submit_matched.new.tables c.in_ok-out-in-Some-least_match.out (its-id s c.args.id r there) (ap (λ (x : Request). is_reserved x.state) (sym same) ∙ is) found.1 least (c.in_ok-out-in-Some-least_match.ensures.serves s r found.0 h there found.1.there)
 
 pub returns-in_ok-out-in-None-clause-submits : goal.returns-in_ok-out-in-None-clause-submits
 returns-in_ok-out-in-None-clause-submits c = λ s r h there.

@@ -5,7 +5,7 @@ use Rattle.rinda_tables.proofs.Asked.{backs-renew, keeps-changed, requested-chan
 use Rattle.rinda_tables.proofs.requests.Requests.renew.Goals as goal
 
 pub invariant_of-self : goal.invariant_of-self
-invariant_of-self c = rw c.lease-before.ensures.list (requested-changed c.args.id (renewed_request c.args.deadline c.args.renewer) c.self.inside.gone.items c.self.inside.waits (λ r. refl) (λ r. refl) c.self.invariant)
+invariant_of-self c = rw (c.lease-before.ensures.list, c.push_reserved.ensures.items, c.reserve.ensures.items, c.lease-before.ensures.before, c.deadline_in-until.ensures, c.doubt_in-doubt.ensures) (requested-changed _ c.args.id (renewed_request c.args.deadline c.args.renewer) _ _ c.self.inside.steps.items c.self.inside.gone.items c.self.inside.waits (backs-renew c.args.id c.args.deadline c.args.renewer c.self.inside.waits) (λ r. refl) c.self.invariant)
 
 pub returns-in-Ok-clause-ahead : goal.returns-in-Ok-clause-ahead
 returns-in-Ok-clause-ahead c = rw (← c.self.view_is, c.lease-before.ensures.list) (left-changed (λ r. r.id) c.self.inside.gone.items c.args.id (renewed_request c.args.deadline c.args.renewer) c.self.inside.waits (λ r. refl))

@@ -8,7 +8,7 @@ pub returns-then-is_gone-clause-ahead : goal.returns-then-is_gone-clause-ahead
 returns-then-is_gone-clause-ahead c = rw (← c.self.view_is) (sym (changed-gone (λ r. r.id) c.self.inside.gone.items c.args.id (in_state c.args.state) c.self.inside.waits (sym c.is_gone.ensures ∙ c.if-is_gone.true)))
 
 pub invariant_of-self : goal.invariant_of-self
-invariant_of-self c = rw c.set-before.ensures.list (requested-set c.args.id (in_state c.args.state) c.self.inside.gone.items c.self.inside.waits (sym c.is_gone.ensures ∙ c.if-is_gone.false) (λ r. refl) c.self.invariant)
+invariant_of-self c = rw (c.set-before.ensures.list, c.push_reserved.ensures.items, c.reserve.ensures.items, c.set-before.ensures.before) (requested-set _ c.args.id (in_state c.args.state) _ _ c.self.inside.steps.items c.self.inside.gone.items c.self.inside.waits (backs-set c.args.id c.args.state c.self.inside.waits) (sym c.is_gone.ensures ∙ c.if-is_gone.false) c.self.invariant)
 
 pub returns-in-Ok-clause-ahead : goal.returns-in-Ok-clause-ahead
 returns-in-Ok-clause-ahead c = rw (← c.self.view_is, c.set-before.ensures.list) (left-changed (λ r. r.id) c.self.inside.gone.items c.args.id (in_state c.args.state) c.self.inside.waits (λ r. refl))

@@ -15,7 +15,7 @@ all-shut c =
     ∙ shut-open c.self.inside.waits c.self.invariant.rise
 
 pub invariant_of-self-2 : goal.invariant_of-self-2
-invariant_of-self-2 c = rw (all-shut c) (requested-shut c.self.inside.gone.items c.self.inside.waits c.self.invariant)
+invariant_of-self-2 c = rw (all-shut c) (requested-shut _ c.self.inside.steps.items _ c.self.inside.gone.items c.self.inside.waits (rw (all-shut c, c.reserve.ensures.items) at c.shut_each.ensures.back) c.self.invariant)
 
 pub returns-clause-ahead : goal.returns-clause-ahead
 returns-clause-ahead c =

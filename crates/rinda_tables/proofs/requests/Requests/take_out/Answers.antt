@@ -7,7 +7,7 @@ use Rattle.rinda_tables.proofs.Asked.{any_there, backs-set, keeps-changed, reque
 use Rattle.rinda_tables.proofs.requests.Requests.take_out.Goals as goal
 
 pub invariant_of-self-2 : goal.invariant_of-self-2
-invariant_of-self-2 c = rw (c.set-before.ensures.list, c.push_reserved-2.ensures.items, c.reserve.ensures.items) (requested-taken c.args.id c.self.inside.gone.items c.self.inside.waits (any_there c.args.id c.self.inside.waits _ (sym c.row.ensures ∙ ap option_copied c.in-Some.is)) c.self.invariant)
+invariant_of-self-2 c = rw (c.set-before.ensures.list, c.push_reserved-2.ensures.items, c.reserve.ensures.items, c.push_reserved.ensures.items, c.reserve-2.ensures.items, c.set-before.ensures.before) (requested-taken c.args.id _ c.self.inside.steps.items c.self.inside.gone.items c.self.inside.waits (any_there c.args.id c.self.inside.waits _ (sym c.row.ensures ∙ ap option_copied c.in-Some.is)) c.self.invariant)
 
 pub returns-clause-ahead : goal.returns-clause-ahead
 returns-clause-ahead c = rw (← c.self.view_is, c.set-before.ensures.list, c.push_reserved-2.ensures.items, c.reserve.ensures.items) (left-more (λ r. r.id) c.self.inside.gone.items c.args.id (in_state Reserved) c.self.inside.waits (λ r. refl))

@@ -6,7 +6,7 @@ use Rattle.rinda_tables.proofs.Backs.{any_there, changes-mark, keeps-changed, tu
 use Rattle.rinda_tables.proofs.tuples.Tuples.take_out.Goals as goal
 
 pub invariant_of-self-2 : goal.invariant_of-self-2
-invariant_of-self-2 c = rw (c.mark.ensures, c.push_reserved.ensures.items, c.reserve.ensures.items) (tupled-taken c.args.id c.self.inside.steps.items _ c.self.inside.gone.items c.self.inside.bag (any_there c.args.id c.self.inside.bag _ (sym c.row.ensures ∙ ap option_copied c.in-Some.is)) c.self.invariant)
+invariant_of-self-2 c = rw (c.mark.ensures, c.push_reserved.ensures.items, c.reserve.ensures.items, c.in_ok-note.ensures.noted) (tupled-taken c.args.id c.self.inside.steps.items _ c.self.inside.gone.items c.self.inside.bag (any_there c.args.id c.self.inside.bag _ (sym c.row.ensures ∙ ap option_copied c.in-Some.is)) c.self.invariant)
 
 pub returns-clause-ahead : goal.returns-clause-ahead
 returns-clause-ahead c = rw (← c.self.view_is, c.mark.ensures, c.push_reserved.ensures.items, c.reserve.ensures.items) (left-more (λ t. t.id) c.self.inside.gone.items c.args.id marked c.self.inside.bag (changes-mark).id)

@@ -1,6 +1,0 @@
-use Rattle.std.proofs.Common.{◌≡◌, drop}
-use Rattle.drb_tree.specs.Same.{all_ascii}
-use Rattle.drb_server.proofs.plain.is_ascii.Given as goal
-
-abbrev pub invariant-loop-b : goal.invariant-loop-b
-invariant-loop-b l = all_ascii l.bytes ≡ all_ascii (drop l.b-index l.bytes)
