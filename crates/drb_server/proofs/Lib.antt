@@ -1,2 +1,4 @@
 pub mod Options
 pub mod Whole
+pub mod Serving
+pub mod Crossing

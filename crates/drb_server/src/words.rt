@@ -152,7 +152,7 @@ fn is_word(word: &str, other: &str) -> bool
 }
 
 /// Whether a word is a uri.
-fn is_place(word: &str) -> bool
+pub(crate) fn is_place(word: &str) -> bool
     ensures { IsTrue result ↔ IsPlace word.now }
 {
     match parse_uri(word.as_bytes()) {
@@ -162,7 +162,7 @@ fn is_place(word: &str) -> bool
 }
 
 /// A load limit: a number from 64 to 1,073,741,823.
-fn load_in(word: &str) -> Option<u32>
+pub(crate) fn load_in(word: &str) -> Option<u32>
     ensures number { IfSome result (λ n. IsNumber 64 1073741823 word.now n) }
     ensures every { (n : ℕ) → IsNumber 64 1073741823 word.now n → result ≡ Some n }
 {
@@ -173,7 +173,7 @@ fn load_in(word: &str) -> Option<u32>
 }
 
 /// The number from the least to the greatest that 1 to 10 digits write.
-fn number_in(word: &str, least: u64, greatest: u64) -> Option<u64>
+pub(crate) fn number_in(word: &str, least: u64, greatest: u64) -> Option<u64>
     ensures number { IfSome result (λ n. IsNumber least greatest word.now n) }
     ensures every { (n : ℕ) → IsNumber least greatest word.now n → result ≡ Some n }
 {

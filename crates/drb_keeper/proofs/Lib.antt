@@ -1,0 +1,3 @@
+pub mod Outer
+pub mod Keeping
+pub mod Aging
