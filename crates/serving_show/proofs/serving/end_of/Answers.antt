@@ -1,0 +1,6 @@
+use denote.Param.Send.{sendable}
+use Rattle.serving_show.proofs.Crossing.{journal_send}
+use Rattle.serving_show.proofs.serving.end_of.Goals as goal
+
+pub serve_run-served-requires-send-J : goal.serve_run-served-requires-send-J
+serve_run-served-requires-send-J g c κs = search (journal_send, sendable) depth 60
