@@ -32,6 +32,7 @@ sets_by w v s e h = record {
   sessions = subst (λ (o : Option Word). MayBeNumber 1 1000000000 o s.sessions) (e (codes "sessions")) h.sessions;
   shut_after = subst (λ (o : Option Word). MayBeNumber 1 86400000 o s.shut_after) (e (codes "shut-after")) h.shut_after;
   acl = h.acl ∙ e (codes "acl");
+  journal = h.journal ∙ e (codes "journal");
 }
 
 -- the word that was found for an option is the one that the words give to it

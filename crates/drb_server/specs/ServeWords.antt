@@ -12,9 +12,9 @@ option name = record (new_rule name) { long = Some name; value_names = 1 }
 -- the command and its options, as clap reads them
 abbrev pub serve_command : App
 serve_command = with_rule (with_rule (with_rule (with_rule (with_rule (with_rule (with_rule
-    (new_app (codes "serve")) (option (codes "uri"))) (option (codes "workers")))
+    (with_rule (new_app (codes "serve")) (option (codes "uri"))) (option (codes "workers")))
     (option (codes "max-turns"))) (option (codes "load-limit"))) (option (codes "sessions")))
-    (option (codes "shut-after"))) (option (codes "acl"))
+    (option (codes "shut-after"))) (option (codes "acl"))) (option (codes "journal"))
 
 -- clap finds nothing wrong with these words
 abbrev pub AreWords : List Word → Type 0
@@ -26,7 +26,7 @@ given words name = first_of name (matches_of serve_command words)
 
 -- all that is set: the server's uri, and whether the system picks its port; how many guests are served at once; how many
 -- turns there may be; the load limit in bytes; how many guests are served in all, after how many milliseconds the space is
--- shut, and the file with the access list, where these are named
+-- shut, the file with the access list, and the file that the history is written to, where these are named
 pub record ServeOptions : Type 0 where
   pub uri : Word
   pub picks : Bool
@@ -36,6 +36,7 @@ pub record ServeOptions : Type 0 where
   pub sessions : Option ℕ
   pub shut_after : Option ℕ
   pub acl : Option Word
+  pub journal : Option Word
 
 abbrev pub serve_options : ServeSetup → ServeOptions
 serve_options x = record {
@@ -47,6 +48,7 @@ serve_options x = record {
   sessions = x.sessions;
   shut_after = x.shut_after;
   acl = option_copied x.acl;
+  journal = option_copied x.journal;
 }
 
 -- the uri with the port that the system picked
@@ -89,6 +91,7 @@ pub record Sets (word : Word → Option Word) (s : ServeOptions) : Type 0 where
   pub sessions : MayBeNumber 1 1000000000 (word (codes "sessions")) s.sessions
   pub shut_after : MayBeNumber 1 86400000 (word (codes "shut-after")) s.shut_after
   pub acl : s.acl ≡ word (codes "acl")
+  pub journal : s.journal ≡ word (codes "journal")
 
 -- The words are those of the command, and this is what they set.
 pub record MeansServe (words : List Word) (s : ServeOptions) : Type 0 where

@@ -6,6 +6,8 @@ use Rattle.drb_acl.specs.declared.acl.AclError.{AclError}
 use Rattle.drb_acl.specs.declared.acl.AclError.TheVariants as list
 use Rattle.drb_serving.specs.declared.settings.Served.{Served}
 use Rattle.drb_serving.specs.declared.settings.Served.TheVariants as served
+use Rattle.drb_logged.specs.declared.logging.Logged.{Logged}
+use Rattle.drb_logged.specs.declared.logging.Logged.TheVariants as logged
 
 -- where clap has a text for the user: help was asked for, or there is no memory, or the words are others
 abbrev pub words_status : ErrorKind → ℕ
@@ -23,3 +25,9 @@ abbrev pub served_status : Served → ℕ
 served_status (served.Done turns tuples) = 0
 served_status (served.AcceptFault turns tuples) = 8
 served_status served.Memory = 7
+
+-- where it has served and written the history: as above, or a turn has no text, or the file failed
+abbrev pub logged_status : Logged → ℕ
+logged_status (logged.Served s) = served_status s
+logged_status (logged.DoesNotFit turn) = 12
+logged_status logged.WriteFault = 5

@@ -3,7 +3,8 @@
 //! `drbts stdio` serves a session of requests over standard input and standard output, and `drbts serve` whoever comes
 //! over TCP. All that the first does is one public call, `stdio::stdio_run`, and all that the second does is
 //! `drb_serving::serve_run`, with what its words set; both take what they meet outside as arguments, and `main` and
-//! `serve` give them the system (`drb_edge`). Read `specs/Words.antt` and `words`, then `specs/Runs.antt` and `stdio`;
+//! `serve` give them the system (`drb_edge`). So does `main` for a client's commands, each of which is one call of
+//! `rinda_proxy::client_ask` with what its words set (`client_words`). Read `specs/Words.antt` and `words`, then `specs/Runs.antt` and `stdio`;
 //! then `specs/ServeWords.antt` and `serve_words`, `specs/Serving.antt` and `serve`, and `access`. What the process says
 //! at its end is in `specs/Statuses.antt` and `statuses`.
 #![tactic(auto)]
@@ -22,9 +23,12 @@ use crate::serve_words::{ServeSetup, command_of, read_serve};
 use crate::statuses::words_status;
 use crate::stdio::{Status, stdio_run};
 use clap::{Command, Error};
+use client_words::{command_of as client_command_of, is_client, read_client};
 use drb_edge::{Reading, TcpDialer, WallClock, Writing};
 use drb_outside::Buffered;
+use drb_packet::Limits;
 use rinda_marks::Secret;
+use rinda_proxy::client_ask;
 use std::process::ExitCode;
 use std::random::RandomSource;
 use std::{env, io};
@@ -85,6 +89,33 @@ fn tell(rt: &HostRuntime, error: &Error) -> u8 {
     words_status(error.kind())
 }
 
+/// How much is read of a packet of a reply.
+const REPLIES: Limits = Limits {
+    load: 26_214_400,
+    args: 256,
+};
+
+/// A client's command over the system. The first word is its name.
+fn told_client(rt: &HostRuntime, words: &[String]) -> u8 {
+    let alloc = rt.alloc();
+    match read_client(alloc, words) {
+        Ok(setup) => {
+            let mut dialer = TcpDialer::new(rt, None);
+            let mut output = Writing::new(rt.stdout());
+            client_ask(
+                alloc,
+                &setup.uri,
+                &setup.asking,
+                &mut dialer,
+                &mut output,
+                &REPLIES,
+            )
+            .number()
+        }
+        Err(error) => tell(rt, &error),
+    }
+}
+
 /// What the words of the command `serve` set, and a secret; else the status.
 fn setup_of<'a>(rt: &HostRuntime, words: &'a [String]) -> Result<(ServeSetup<'a>, Secret), u8>
     ensures { IfOk result (λ x. (1 ≤ x.0.workers) × (x.0.workers ≤ 256)) }
@@ -111,7 +142,11 @@ fn help_of(rt: &HostRuntime, words: &[String]) -> Result<(), Error> {
         .subcommand_required(true)
         .arg_required_else_help(true)
         .subcommand(command_of(alloc)?)?
-        .subcommand(stdio)?;
+        .subcommand(stdio)?
+        .subcommand(client_command_of(alloc, "write")?)?
+        .subcommand(client_command_of(alloc, "read")?)?
+        .subcommand(client_command_of(alloc, "readall")?)?
+        .subcommand(client_command_of(alloc, "watch")?)?;
     commands.try_get_matches_from(words)?;
     Ok(())
 }
@@ -126,6 +161,7 @@ fn main(rt: HostRuntime) -> ExitCode {
             Ok((setup, secret)) => serve(&rt, secret, &setup),
             Err(status) => status,
         },
+        Some(word) if is_client(word.as_str()) => told_client(&rt, words.as_slice()),
         _ => match help_of(&rt, words.as_slice()) {
             Ok(()) => 1,
             Err(error) => tell(&rt, &error),

@@ -30,6 +30,8 @@ pub struct ServeSetup<'a> {
     pub shut_after: Option<u64>,
     /// The file with the access list.
     pub acl: Option<&'a str>,
+    /// The file that the history is written to.
+    pub journal: Option<&'a str>,
 }
 
 /// The word of an option that doesn't set it.
@@ -125,12 +127,19 @@ pub fn command_of<'a>(alloc: Global) -> Result<Command<'a>, AllocError>
         "MS",
         "After how many milliseconds the space is shut, 1 to 86400000 [default: never]",
     )?;
-    with_option(
+    let command = with_option(
         command,
         alloc,
         "acl",
         "FILE",
         "The file of the access list [default: everybody may come]",
+    )?;
+    with_option(
+        command,
+        alloc,
+        "journal",
+        "FILE",
+        "The file that the history is written to at the end [default: none is kept]",
     )
 }
 
@@ -233,6 +242,7 @@ fn numbers_of<'a>(
         sessions,
         shut_after,
         acl: matches.get_str("acl"),
+        journal: matches.get_str("journal"),
     })
 }
 

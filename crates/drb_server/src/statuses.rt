@@ -1,10 +1,11 @@
 //! The statuses of the command `serve`.
 
 ghost use Rattle.std.specs.Prelude.{◌≡◌};
-ghost use Rattle.drb_server.specs.Statuses.{words_status, list_status, served_status};
+ghost use Rattle.drb_server.specs.Statuses.{words_status, list_status, served_status, logged_status};
 
 use clap::error::ErrorKind;
 use drb_acl::AclError;
+use drb_logged::Logged;
 use drb_serving::Served;
 
 /// The status where clap has a text for the user.
@@ -36,5 +37,16 @@ pub fn served_status(served: &Served) -> u8
         Served::Done { .. } => 0,
         Served::AcceptFault { .. } => 8,
         Served::Memory => 7,
+    }
+}
+
+/// The status where it has served and written the history.
+pub fn logged_status(logged: &Logged) -> u8
+    ensures { result ≡ logged_status logged.now }
+{
+    match logged {
+        Logged::Served(served) => served_status(served),
+        Logged::DoesNotFit { .. } => 12,
+        Logged::WriteFault => 5,
     }
 }

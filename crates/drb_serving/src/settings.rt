@@ -22,9 +22,9 @@ pub trait Gate: Sync {
 /// What serving came to. `turns` and `tuples` are those of the space that is handed back.
 #[derive(Clone, Copy, Debug, PartialEq, Eq)]
 pub enum Served {
-    /// No further guest will come, and all who came were served.
+    /// The doors said that no further guest will come.
     Done { turns: u64, tuples: u64 },
-    /// The doors failed, and all who had come were served.
+    /// The doors failed.
     AcceptFault { turns: u64, tuples: u64 },
     /// There was no memory, and there is no space to hand back.
     Memory,

@@ -164,19 +164,19 @@ step_request place p request (Some end) a b l l' g g' m n k j le le' h o = absur
 
 -- One after the other.
 
-served_on : {S D : Type 0} (a : Answering S D) (ss ts : List (Served D)) → AllServed a ss → AllServed a ts → AllServed a (ss ++ ts)
+pub served_on : {S D : Type 0} (a : Answering S D) (ss ts : List (Served D)) → AllServed a ss → AllServed a ts → AllServed a (ss ++ ts)
 served_on a [] ts h k = k
 served_on a (s ∷ ss) ts h k = (h.0, h.1, served_on a ss ts h.2 k)
 
-cuts_on : {D : Type 0} (limits : Limits) (a b c : List ℕ) (ss ts : List (Served D)) → Cuts limits a ss b → Cuts limits b ts c → Cuts limits a (ss ++ ts) c
+pub cuts_on : {D : Type 0} (limits : Limits) (a b c : List ℕ) (ss ts : List (Served D)) → Cuts limits a ss b → Cuts limits b ts c → Cuts limits a (ss ++ ts) c
 cuts_on limits a b c [] ts h k = subst (λ (q : List ℕ). Cuts limits q ts c) (sym h) k
 cuts_on limits a b c (s ∷ ss) ts h k = (h.0, h.1, cuts_on limits h.0 b c ss ts h.2 k)
 
-deeds_on : {D : Type 0} (ss ts : List (Served D)) → deeds_of (ss ++ ts) ≡ deeds_of ss ++ deeds_of ts
+pub deeds_on : {D : Type 0} (ss ts : List (Served D)) → deeds_of (ss ++ ts) ≡ deeds_of ss ++ deeds_of ts
 deeds_on [] ts = refl
 deeds_on (s ∷ ss) ts = ap (λ q. s.deeds ++ q) (deeds_on ss ts) ∙ sym (append_assoc s.deeds (deeds_of ss) (deeds_of ts))
 
-texts_on : {D : Type 0} (ss ts : List (Served D)) → texts_of (ss ++ ts) ≡ texts_of ss ++ texts_of ts
+pub texts_on : {D : Type 0} (ss ts : List (Served D)) → texts_of (ss ++ ts) ≡ texts_of ss ++ texts_of ts
 texts_on [] ts = refl
 texts_on (s ∷ ss) ts = ap (λ q. text_of s.reply ++ q) (texts_on ss ts) ∙ sym (append_assoc (text_of s.reply) (texts_of ss) (texts_of ts))
 
@@ -194,7 +194,7 @@ going_none place p s = record {
   };
 }
 
-later_on : (a b c : Wire) → Later a b → Later b c → Later a c
+pub later_on : (a b c : Wire) → Later a b → Later b c → Later a c
 later_on a b c h k = record { read = omega (arith, h.read, k.read); write = omega (arith, h.write, k.write) }
 
 goes_on : {S D : Type 0} (w : Answering S D) (a b c : Wire) (xs ys : List D) → Goes w a b xs → Goes w b c ys → Goes w a c (xs ++ ys)
@@ -207,7 +207,7 @@ goes_on {D = D} w a b c xs ys h k = record {
   later = later_on a b c h.later k.later;
 }
 
-written_on : {D : Type 0} (ss ts : List (Served D)) (x y z written : List ℕ) → y ≡ x ++ texts_of ss → z ≡ y ++ (texts_of ts ++ written) → z ≡ x ++ (texts_of (ss ++ ts) ++ written)
+pub written_on : {D : Type 0} (ss ts : List (Served D)) (x y z written : List ℕ) → y ≡ x ++ texts_of ss → z ≡ y ++ (texts_of ts ++ written) → z ≡ x ++ (texts_of (ss ++ ts) ++ written)
 written_on ss ts x y z written p q = q ∙ ap (λ r. r ++ (texts_of ts ++ written)) p ∙ append_assoc x (texts_of ss) (texts_of ts ++ written)
     ∙ ap (λ r. x ++ r) (sym (append_assoc (texts_of ss) (texts_of ts) written) ∙ ap (λ r. r ++ written) (sym (texts_on ss ts)))
 

@@ -152,8 +152,17 @@ fn serve_request<T: Turns, K: Sink, C: Clock, D: Dialer>(
     write_out(alloc, output, ok, value)
 }
 
-/// Writes the reply as one text. None where that is one of success.
-fn write_out<K: Sink>(alloc: Global, output: &mut K, ok: bool, value: Value) -> Option<SessionEnd>
+/// Writes the reply as one text, or in place of one that is too long the failure that it is.
+///
+/// None where it is one of success and was written. `Raised` where it is one of failure and was written; `WriteFault`
+/// only where the output's count of faults rose, after a front of the text; `Memory` at any time, and nothing written.
+/// Source: docs/SESSIONS.md, Replies and Ends.
+pub fn write_out<K: Sink>(
+    alloc: Global,
+    output: &mut K,
+    ok: bool,
+    value: Value,
+) -> Option<SessionEnd>
     ensures writes { Writes (ok, value) result (K.given output.old) (K.given output.new)
         (K.faults output.new) }
     ensures output_holds { K.holds output.new ≡ K.holds output.old }
@@ -176,7 +185,11 @@ fn write_out<K: Sink>(alloc: Global, output: &mut K, ok: bool, value: Value) -> 
 }
 
 /// Answers a refusal of the input, and says how the session ends.
-fn refuse<K: Sink>(alloc: Global, output: &mut K, why: PacketRefusal) -> SessionEnd
+///
+/// `Refused` of that refusal, its exception written, but for `CutBetween`, where nothing is; `WriteFault` only where the
+/// output's count of faults rose; `Memory` at any time, and nothing written.
+/// Source: docs/SESSIONS.md, Ends.
+pub fn refuse<K: Sink>(alloc: Global, output: &mut K, why: PacketRefusal) -> SessionEnd
     ensures refuses { Refuses why result (K.given output.old) (K.given output.new)
         (K.faults output.new) }
     ensures output_holds { K.holds output.new ≡ K.holds output.old }

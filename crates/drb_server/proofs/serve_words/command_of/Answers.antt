@@ -15,4 +15,5 @@ returns c =
     let load = c.in_ok-command-5.ensures ∙ ap (λ (a : App). with_rule a (option (codes "load-limit"))) turns in
     let sessions = c.in_ok-command-6.ensures ∙ ap (λ (a : App). with_rule a (option (codes "sessions"))) load in
     let shut = c.in_ok-command-7.ensures ∙ ap (λ (a : App). with_rule a (option (codes "shut-after"))) sessions in
-    IfOk-weaker c.with_option-7.result _ _ (λ m h. h ∙ ap (λ (a : App). with_rule a (option (codes "acl"))) shut) c.with_option-7.ensures
+    let acl = c.in_ok-command-8.ensures ∙ ap (λ (a : App). with_rule a (option (codes "acl"))) shut in
+    IfOk-weaker c.with_option-8.result _ _ (λ m h. h ∙ ap (λ (a : App). with_rule a (option (codes "journal"))) acl) c.with_option-8.ensures

@@ -1,0 +1,11 @@
+pub mod Bytes
+pub mod Reading
+pub mod Names
+pub mod Numbers
+pub mod Strings
+pub mod References
+pub mod Texts
+pub mod Shown
+pub mod Puts
+pub mod Told
+pub mod Laws

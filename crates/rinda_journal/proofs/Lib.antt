@@ -1,0 +1,13 @@
+pub mod Again
+pub mod Cursors
+pub mod Given
+pub mod Joined
+pub mod Lengths
+pub mod Names
+pub mod Outer
+pub mod Packets
+pub mod Picks
+pub mod Places
+pub mod Raised
+pub mod Streams
+pub mod Texts

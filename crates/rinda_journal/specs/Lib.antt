@@ -1,0 +1,13 @@
+pub mod Words
+pub mod Fields
+pub mod Heads
+pub mod Kept
+pub mod Texts
+pub mod Raised
+pub mod Writes
+pub mod Parsers
+pub mod Streams
+pub mod Reading
+pub mod Fronts
+pub mod Histories
+pub mod Laws

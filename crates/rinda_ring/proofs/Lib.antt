@@ -1,0 +1,5 @@
+pub mod Outer
+pub mod Reading
+pub mod Replying
+pub mod Ringing
+pub mod Ruled

@@ -1,0 +1,4 @@
+pub mod Lookups
+pub mod Blocks
+pub mod Tasks
+pub mod Rings
